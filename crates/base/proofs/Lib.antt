@@ -1,0 +1,13 @@
+pub mod Walk
+pub mod Lists
+pub mod Says
+pub mod Tabulate
+pub mod LittleEndian
+pub mod ByteLists
+pub mod Digits
+pub mod Bits
+pub mod Orders
+pub mod Examples
+pub mod Signed
+pub mod Operators
+pub mod Decimal

@@ -1,0 +1,11 @@
+pub mod Pick
+pub mod Part
+pub mod Range
+pub mod Walk
+pub mod LittleEndian
+pub mod Digit
+pub mod Bits
+pub mod Order
+pub mod Ascii
+pub mod Vectors
+pub mod Examples
