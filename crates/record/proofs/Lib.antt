@@ -1,0 +1,10 @@
+pub mod Records
+pub mod Reach
+pub mod Shift
+pub mod Append
+pub mod Written
+pub mod Laws
+pub mod Names
+pub mod Examples
+pub mod Types
+pub mod Small

@@ -1,0 +1,25 @@
+use borrow.Author.Needs.{needs}
+use Rattle.record.proofs.kind.array_of.Statement.{statement}
+use Rattle.record.proofs.kind.array_of.Tie as tie
+
+enum-told : tie.Need-enum-told
+enum-told c = search needs
+
+enum-known-kind : tie.Need-enum-known-kind
+enum-known-kind c = search needs
+
+enum-told-2 : tie.Need-enum-told-2
+enum-told-2 c = search needs
+
+returns : tie.Need-returns
+returns c = search needs
+
+returns-2 : tie.Need-returns-2
+returns-2 c = rw (c .before .kind .given .1)
+
+returns-3 : tie.Need-returns-3
+returns-3 c = search needs
+
+pub array-of-spec : {M : Type 1} → statement M
+array-of-spec =
+    tie.close (tie.spec enum-told enum-known-kind enum-told-2 returns returns-2 returns-3)

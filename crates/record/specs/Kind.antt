@@ -1,0 +1,66 @@
+-- 01 "Records" (types and value bodies) and "Kinds" (rows): the definition that knows the types' numbers.
+use Prim.Native.Nat.{ℕ, _-_}
+use mathlib.Core.List.{List, [], _∷_}
+use mathlib.Core.Bool.{Bool, true, false}
+use lib.Dec.{ltb, eqb}
+use Rattle.base.specs.Pick.{pick}
+use Rattle.record.specs.declared.kind.Family.{Family}
+use Rattle.record.specs.declared.kind.Family.the-variants.{Boolean, Integer, Real, Text, Char16, Octets, Datetime, Reference}
+use Rattle.record.specs.declared.kind.Kind.{Kind}
+use Rattle.record.specs.declared.kind.Kind.the-variants.{Unknown, Scalar, Array}
+
+abbrev pub scalarOf : Family → (width : ℕ) → (signed : Bool) → Kind
+scalarOf f w g = Scalar (record { family = f; width = w; signed = g })
+
+pub record Numbered : Type 0 where
+  pub number : ℕ
+  pub says : Kind
+
+abbrev type : ℕ → Family → (width : ℕ) → (signed : Bool) → Numbered
+type n f w g = record { number = n; says = scalarOf f w g }
+
+-- the types: number, family, bytes of a body (0 where any number), whether there is a sign
+abbrev pub types : List Numbered
+types =
+    type 1 Boolean 1 false
+    ∷ type 2 Integer 8 false
+    ∷ type 3 Integer 8 true
+    ∷ type 4 Real 4 false
+    ∷ type 5 Real 8 false
+    ∷ type 6 Text 0 false
+    ∷ type 7 Char16 2 false
+    ∷ type 8 Octets 0 false
+    ∷ type 9 Datetime 25 false
+    ∷ type 10 Reference 0 false
+    ∷ []
+
+abbrev pub find : ℕ → List Numbered → Kind
+find n [] = Unknown
+find n (t ∷ ts) = pick (eqb n (t .number)) (t .says) (find n ts)
+
+-- what a type's number says
+unfoldable pub scalarKind : ℕ → Kind
+scalarKind n = find n types
+
+abbrev pub arrayOf : (element : ℕ) → Kind → Kind
+arrayOf e Unknown = Unknown
+arrayOf e (Scalar t) = Array e t
+arrayOf e (Array f t) = Unknown
+
+-- what a property's kind says: it is the type, plus 0x0100 for an array
+unfoldable pub kindOf : ℕ → Kind
+kindOf k = pick (ltb k 0x0100) (scalarKind k) (arrayOf (k - 0x0100) (scalarKind (k - 0x0100)))
+
+-- the rows of Table 1, {1} {2,3} {4,5} {6,7} {8} {9} {10}, numbered in this order
+abbrev pub row : Family → ℕ
+row Boolean = 1
+row Integer = 2
+row Real = 3
+row Text = 4
+row Char16 = 4
+row Octets = 5
+row Datetime = 6
+row Reference = 7
+
+abbrev pub sameRow : Family → Family → Bool
+sameRow a b = eqb (row a) (row b)

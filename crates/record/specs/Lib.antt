@@ -1,0 +1,6 @@
+pub mod Record
+pub mod Write
+pub mod Name
+pub mod Reserved
+pub mod Kind
+pub mod Examples

@@ -1,0 +1,13 @@
+-- 01 "Records": the bytes of a record, and of a number in so many bytes, least byte first.
+use Prim.Native.Nat.{ℕ, zero, suc, _/_, _%_}
+use mathlib.Core.List.{List, [], _∷_, _++_}
+use lib.ListN.{length}
+
+-- a number in `width` bytes
+unfoldable pub littleEndian : (width : ℕ) → ℕ → List ℕ
+littleEndian zero n = []
+littleEndian (suc width) n = n % 256 ∷ littleEndian width (n / 256)
+
+-- a record of a kind and a body
+unfoldable pub write : (kind : ℕ) (body : List ℕ) → List ℕ
+write kind body = littleEndian 2 (length body) ++ littleEndian 2 kind ++ body

@@ -1,0 +1,45 @@
+// The record at an offset.
+ghost use mathlib.Core.Path.{_≡_};
+ghost use Rattle.record.specs.Record.{recordAt};
+
+// What stands at an offset: a whole record, one that runs past the end, or the end.
+pub enum RecordAt {
+    Whole {
+        kind: usize,
+        start: usize,
+        length: usize,
+        next: usize,
+    },
+    Broken,
+    End,
+}
+
+// The two-byte number at an offset.
+pub fn number_at(s: &[u8], at: usize) -> usize
+    ensures { λ r. ⌜ r ≡ Rattle.record.specs.Record.numberAt (now (s .entry)) at ⌝ }
+{
+    base::integer::unsigned_in(base::bytes::piece(s, at, 2)) as usize
+}
+
+pub fn record_at(s: &[u8], at: usize) -> RecordAt
+    ensures { λ r. ⌜ r ≡ recordAt (now (s .entry)) at ⌝ }
+{
+    if s.len() <= at {
+        return RecordAt::End;
+    }
+    let left = s.len() - at;
+    if left < 4 {
+        return RecordAt::Broken;
+    }
+    let length = number_at(s, at);
+    if left - 4 < length {
+        return RecordAt::Broken;
+    }
+    let kind = number_at(s, at + 2);
+    RecordAt::Whole {
+        kind,
+        start: at + 4,
+        length,
+        next: at + 4 + length,
+    }
+}

@@ -1,0 +1,4 @@
+// UTF-8 text: well-formed sequences, scalar values, characters.
+pub mod scalar;
+pub mod sequence;
+pub mod text;
