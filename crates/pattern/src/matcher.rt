@@ -1,0 +1,99 @@
+// The matcher: its state goes in by value, and a step hands back the next one.
+ghost use mathlib.Core.Path.{_≡_};
+ghost use mathlib.Core.List.{[], _∷_};
+ghost use Rattle.pattern.specs.Reading.{parse};
+ghost use Rattle.pattern.specs.Matcher.{initial, stepped, accepted, likeOf, matchOf};
+use crate::fragment::keep_if;
+use crate::reader::PatternRead;
+use crate::reader::read_pattern;
+use base::bytes::piece;
+use unicode::scalar::scalar_of;
+use unicode::sequence::sequence_at;
+
+// The pattern's live symbols (01), and whether a character has been read.
+pub struct Live {
+    pub begun: bool,
+    pub set: u64,
+}
+
+// Whether a text matches, and how many characters it has.
+pub struct Matched {
+    pub holds: bool,
+    pub characters: usize,
+}
+
+impl Live {
+    pub fn start() -> Live
+        ensures { λ r. ⌜ r ≡ initial ⌝ }
+    {
+        Live {
+            begun: false,
+            set: 0,
+        }
+    }
+
+    // The live symbols after the character c.
+    pub fn step(self, p: &[u32], c: u32) -> Live
+        ensures { λ r. ⌜ r ≡ stepped (parse (now (p .entry))) self c ⌝ }
+    {
+        let begun = self.begun;
+        let set = self.set;
+        match read_pattern(p, set, c) {
+            PatternRead::BadPattern => Live {
+                begun: true,
+                set: 0,
+            },
+            PatternRead::Pattern(f) => {
+                let first = keep_if(!begun, f.first);
+                Live {
+                    begun: true,
+                    set: f.follow | first,
+                }
+            }
+        }
+    }
+
+    // Whether the text may end here.
+    pub fn accepts(self, p: &[u32]) -> bool
+        ensures { λ r. ⌜ r ≡ accepted (parse (now (p .entry))) self ⌝ }
+    {
+        let begun = self.begun;
+        let set = self.set;
+        match read_pattern(p, set, 0) {
+            PatternRead::BadPattern => false,
+            PatternRead::Pattern(f) => { if begun { f.last } else { f.nullable } }
+        }
+    }
+}
+
+// LIKE of a text in UTF-8. All its characters are counted, also where no symbol is live any more.
+pub fn match_text(p: &[u32], text: &[u8]) -> Matched
+    ensures { λ r. ⌜ r ≡ matchOf (now (p .entry)) (now (text .entry)) ⌝ }
+{
+    let mut live = Live::start();
+    let mut at = 0;
+    let mut count = 0;
+    while at < text.len() {
+        let n = sequence_at(text, at);
+        if n == 0 {
+            return Matched {
+                holds: live.accepts(p),
+                characters: count,
+            };
+        }
+        live = live.step(p, scalar_of(piece(text, at, n)));
+        at += n;
+        count += 1;
+    }
+    Matched {
+        holds: live.accepts(p),
+        characters: count,
+    }
+}
+
+// LIKE of a text of one character.
+pub fn match_one(p: &[u32], c: u32) -> bool
+    ensures { λ r. ⌜ r ≡ likeOf (parse (now (p .entry))) (c ∷ []) ⌝ }
+{
+    Live::start().step(p, c).accepts(p)
+}

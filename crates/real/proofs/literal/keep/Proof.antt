@@ -1,0 +1,18 @@
+use mir.Facts.{toZ-ofZ}
+use borrow.Author.Needs.{needs}
+use Rattle.real.proofs.literal.keep.Statement.{statement}
+use Rattle.real.proofs.literal.keep.Tie as tie
+use Rattle.real.proofs.literal.keep.Reads as reads
+use Rattle.real.proofs.literal.keep.Lts as lts
+use Rattle.real.proofs.literal.add_sign.Reads as add-sign-reads
+
+-- src/literal.rt:22:9
+add-sign-requires : tie.Need-add-sign-requires
+add-sign-requires c κs = search needs
+
+-- src/literal.rt:19:1
+returns : tie.Need-returns
+returns c = rw (toZ-ofZ (c .before .fits .exponent), c .add-sign .ensures)
+
+pub keep-spec : {M : Type 1} → statement M
+keep-spec = tie.close (tie.spec add-sign-requires returns)

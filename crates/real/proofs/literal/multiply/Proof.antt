@@ -1,0 +1,41 @@
+use Prim.Native.Nat.{_^_}
+use native.Mathlib.Omega.{arith}
+use mathlib.Core.Path.{_∙_}
+use lib.Dec.{le→leb}
+use lib.Ieee.{inFloat}
+use mir.Syntax.{w32}
+use Rattle.base.proofs.Signed.{toZ-small}
+use Rattle.real.specs.Real.{magnitude}
+use borrow.Author.Needs.{needs}
+use Rattle.real.proofs.literal.multiply.Statement.{statement}
+use Rattle.real.proofs.literal.multiply.Tie as tie
+use Rattle.real.proofs.literal.multiply.Reads as reads
+use Rattle.real.proofs.literal.multiply.Lts as lts
+use Rattle.real.proofs.literal.keep.Reads as keep-reads
+use Rattle.real.proofs.powers.power_of_ten.Reads as power-of-ten-reads
+
+-- src/literal.rt:35:28
+cast-keep : tie.Need-cast-keep
+cast-keep c = search needs
+
+-- src/literal.rt:35:38
+int-to-float-keep : tie.Need-int-to-float-keep
+unfolding inFloat
+int-to-float-keep c = le→leb (c .before .args .digits) (2 ^ 53) (omega arith)
+
+-- src/literal.rt:35:54
+power-of-ten-requires : tie.Need-power-of-ten-requires
+power-of-ten-requires c κs = search needs
+
+-- src/literal.rt:35:5
+keep-requires : tie.Need-keep-requires
+keep-requires c κs = search needs
+
+-- src/literal.rt:31:1
+returns : tie.Need-returns
+unfolding magnitude
+returns c = c .keep .ensures ∙ rw (toZ-small w32 (c .before .before .before .args .k) (omega arith), c .before .power-of-ten .ensures)
+
+pub multiply-spec : {M : Type 1} → statement M
+multiply-spec =
+    tie.close (tie.spec cast-keep int-to-float-keep power-of-ten-requires keep-requires returns)

@@ -1,0 +1,5 @@
+pub mod Real
+pub mod Scale
+pub mod Order
+pub mod Value
+pub mod Examples
