@@ -1,0 +1,166 @@
+-- One law for each way out of the functions of src/.
+use Prim.Native.Nat.{ℕ, _+_, _-_, _≤_, _<_}
+use mathlib.Core.List.{List, _∷_}
+use mathlib.Core.Bool.{Bool, true, false, not}
+use mathlib.Core.Path.{_≡_, refl, sym, ap, _∙_}
+use native.Mathlib.Omega.{arith}
+use native.Mathlib.Numerals.{add-one}
+use lib.ListN.{length}
+use borrow.Author.Tests.{lt-ltb, le-ltb, eq-eqb, ne-eqb, not-true, not-false}
+use Rattle.base.specs.Pick.{pick}
+use Rattle.base.specs.Part.{part}
+use Rattle.record.specs.Record.{recordAt, follow, records}
+use Rattle.record.specs.Kind.{kindOf}
+use Rattle.record.specs.declared.read.RecordAt.{RecordAt}
+use Rattle.record.specs.declared.read.RecordAt.the-variants.{Whole, Broken, End}
+use Rattle.record.specs.declared.kind.ValueType.{ValueType}
+use Rattle.record.specs.declared.kind.Kind.{Kind}
+use Rattle.record.proofs.Records.{records-at, records-whole, records-broken, records-end}
+use Rattle.table.specs.Properties.{kindsIn}
+use Rattle.instance.specs.declared.conform.InstanceFault.the-variants.{TooLong}
+use Rattle.instance.specs.declared.conform.Conformity.{Conformity}
+use Rattle.instance.specs.declared.conform.Conformity.the-variants.{Conforming, Fault}
+use Rattle.instance.specs.declared.conform.Step.{Step}
+use Rattle.instance.specs.declared.conform.Step.the-variants.{Next, Wrong}
+use Rattle.instance.specs.Body.{valueFits}
+use Rattle.instance.specs.Fault.{faultAt, isNull, slotFits, elementsFit, bodyFits, recordFits, furtherFault, faultIn, faultUnder, stepOf, stepAt}
+use Rattle.instance.specs.Start.{nextAt, startOf}
+
+-- the record of a property
+module _ (k kind : ℕ) (s : List ℕ) (x : Bool) (e : x ≡ isNull kind s) where
+  pub record-null : x ≡ true → true ≡ recordFits k kind s
+  record-null h = rw (← e, h)
+
+  pub record-other : x ≡ false → (kind ≡ k → ⊥) → false ≡ recordFits k kind s
+  record-other h n = rw (← e, h, ne-eqb _ _ n)
+
+  pub record-body : x ≡ false → kind ≡ k → (w : Kind) → w ≡ kindOf k → (y : Bool) → y ≡ bodyFits w s → y ≡ recordFits k kind s
+  record-body h n w g y f = rw (← e, h, eq-eqb _ _ n, ← g) f
+
+-- the elements of an array
+module _ (s : List ℕ) (k : ℕ) (t : ValueType) (at n : ℕ) (w : Bool) (inv : w ≡ elementsFit k t s n (records s at)) (r : RecordAt) (e : r ≡ recordAt s at) where
+  pub elements-broken : r ≡ Broken → false ≡ w
+  unfolding elementsFit
+  elements-broken f = sym (inv ∙ rw (records-broken s at (sym e ∙ f)))
+
+  pub elements-end : r ≡ End → true ≡ w
+  unfolding elementsFit
+  elements-end f = sym (inv ∙ rw (records-end s at (sym e ∙ f)))
+
+  module _ (kind start len next : ℕ) (f : r ≡ Whole kind start len next) where
+    pub elements-many : 256 ≤ n → false ≡ w
+    unfolding elementsFit
+    elements-many h = sym (inv ∙ rw (records-whole s at kind start len next (sym e ∙ f), le-ltb _ _ h))
+
+    module _ (h : n < 256) (b : List ℕ) (g : b ≡ part s start len) (x : Bool) (y : x ≡ slotFits k kind b (valueFits t b)) where
+      told : x ≡ slotFits k kind (part s start len) (valueFits t (part s start len))
+      told = y ∙ rw g
+
+      pub elements-bad : not x ≡ true → false ≡ w
+      unfolding elementsFit
+      elements-bad z = sym (inv ∙ rw (records-whole s at kind start len next (sym e ∙ f), lt-ltb _ _ h, ← told, not-true x z))
+
+      pub elements-next : not x ≡ false → w ≡ elementsFit k t s (n + 1) (records s next)
+      unfolding elementsFit
+      elements-next z = inv ∙ rw (records-whole s at kind start len next (sym e ∙ f), lt-ltb _ _ h, ← told, not-false x z)
+
+-- the record that should start at a place
+module _ (s : List ℕ) (at k : ℕ) (r : RecordAt) (e : r ≡ recordAt s at) where
+  pub step-broken : r ≡ Broken → Wrong at ≡ stepAt s at k
+  unfolding stepAt
+  step-broken f = rw (← e, f)
+
+  pub step-end : r ≡ End → Wrong (length s) ≡ stepAt s at k
+  unfolding stepAt
+  step-end f = rw (← e, f)
+
+  module _ (kind start len next : ℕ) (f : r ≡ Whole kind start len next) (b : List ℕ) (g : b ≡ part s start len) (x : Bool) (y : x ≡ recordFits k kind b) where
+    judged : x ≡ recordFits k kind (part s start len)
+    judged = y ∙ rw g
+
+    pub step-next : x ≡ true → Next next ≡ stepAt s at k
+    unfolding stepAt
+    step-next z = rw (← e, f, ← judged, z)
+
+    pub step-wrong : x ≡ false → Wrong at ≡ stepAt s at k
+    unfolding stepAt
+    step-wrong z = rw (← e, f, ← judged, z)
+
+-- further records
+module _ (i : List ℕ) (at : ℕ) (w : Conformity) (inv : w ≡ furtherFault (records i at)) (r : RecordAt) (e : r ≡ recordAt i at) where
+  pub further-broken : r ≡ Broken → (x : Conformity) → x ≡ faultAt at → x ≡ w
+  unfolding furtherFault
+  further-broken f x y = y ∙ sym (inv ∙ rw (records-broken i at (sym e ∙ f)))
+
+  pub further-end : r ≡ End → Conforming ≡ w
+  unfolding furtherFault
+  further-end f = sym (inv ∙ rw (records-end i at (sym e ∙ f)))
+
+  pub further-next : (kind start len next : ℕ) → r ≡ Whole kind start len next → w ≡ furtherFault (records i next)
+  unfolding furtherFault
+  further-next kind start len next f = inv ∙ rw (records-whole i at kind start len next (sym e ∙ f))
+
+-- the fault, by the step at a place
+after : List ℕ → List ℕ → Step → Conformity
+after i ks (Next n) = faultIn i ks (records i n)
+after i ks (Wrong p) = faultAt p
+
+fault-at : (i : List ℕ) (k : ℕ) (ks : List ℕ) (at : ℕ) → faultIn i (k ∷ ks) (records i at) ≡ after i ks (stepAt i at k)
+unfolding faultIn stepAt after
+fault-at i k ks at = rw records-at (go (recordAt i at))
+  where
+    chosen : (b : Bool) (next : ℕ) → pick b (faultIn i ks (records i next)) (faultAt at) ≡ after i ks (pick b (Next next) (Wrong at))
+    chosen true next = refl
+    chosen false next = refl
+
+    go : (r : RecordAt) → faultIn i (k ∷ ks) (follow at r (records i)) ≡ after i ks (stepOf i at k r)
+    go (Whole kind start len next) = chosen (recordFits k kind (part i start len)) next
+    go Broken = refl
+    go End = refl
+
+-- the table's properties beside the instance's records
+module _ (t i : List ℕ) (row at : ℕ) (w : Conformity) (inv : w ≡ faultIn i (kindsIn (records t row)) (records i at)) (r : RecordAt) (e : r ≡ recordAt t row) where
+  pub beside-broken : r ≡ Broken → (x : Conformity) → x ≡ furtherFault (records i at) → x ≡ w
+  unfolding faultIn kindsIn
+  beside-broken f x g = g ∙ sym (inv ∙ rw (records-broken t row (sym e ∙ f)))
+
+  pub beside-end : r ≡ End → (x : Conformity) → x ≡ furtherFault (records i at) → x ≡ w
+  unfolding faultIn kindsIn
+  beside-end f x g = g ∙ sym (inv ∙ rw (records-end t row (sym e ∙ f)))
+
+  module _ (kind start len next : ℕ) (f : r ≡ Whole kind start len next) (y : Step) (g : y ≡ stepAt i at kind) where
+    pub beside-wrong : (p : ℕ) → y ≡ Wrong p → (x : Conformity) → x ≡ faultAt p → x ≡ w
+    unfolding kindsIn after
+    beside-wrong p h x z = z ∙ sym (inv ∙ rw (records-whole t row kind start len next (sym e ∙ f)) (fault-at i kind _ at ∙ rw (← g, h)))
+
+    pub beside-next : (n : ℕ) → y ≡ Next n → w ≡ faultIn i (kindsIn (records t next)) (records i n)
+    unfolding kindsIn after
+    beside-next n h = inv ∙ rw (records-whole t row kind start len next (sym e ∙ f)) (fault-at i kind _ at ∙ rw (← g, h))
+
+-- the whole instance
+module _ (ks i : List ℕ) where
+  pub fault-long : 65535 < length i → Fault TooLong 0 ≡ faultUnder ks i
+  unfolding faultUnder
+  fault-long h = rw (lt-ltb 65535 (length i) h)
+
+  pub fault-short : length i ≤ 65535 → (x : Conformity) → x ≡ faultIn i ks (records i 0) → x ≡ faultUnder ks i
+  unfolding faultUnder
+  fault-short h x e = e ∙ rw (le-ltb 65535 (length i) h)
+
+-- the next record's start
+module _ (s : List ℕ) (at : ℕ) (r : RecordAt) (e : r ≡ recordAt s at) where
+  pub next-whole : (kind start len next : ℕ) → r ≡ Whole kind start len next → next ≡ nextAt s at
+  next-whole kind start len next f = rw (← e, f)
+
+  pub next-broken : r ≡ Broken → at ≡ nextAt s at
+  next-broken f = rw (← e, f)
+
+  pub next-end : r ≡ End → at ≡ nextAt s at
+  next-end f = rw (← e, f)
+
+pub start-next : (i : List ℕ) (n at : ℕ) → at ≡ startOf i n → (y : ℕ) → y ≡ nextAt i at → y ≡ startOf i (n + 1)
+unfolding startOf
+start-next i n at h y g = g ∙ rw (h, add-one, startOf)
+
+pub start-end : (i : List ℕ) (n number at : ℕ) → at ≡ startOf i n → n ≤ number → number ≤ n → at ≡ startOf i number
+start-end i n number at h l m = let e : n ≡ number = omega arith in h ∙ ap (startOf i) e

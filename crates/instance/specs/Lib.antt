@@ -1,0 +1,7 @@
+pub mod Body
+pub mod Conforms
+pub mod Fault
+pub mod Start
+pub mod Value
+pub mod Sample
+pub mod Examples

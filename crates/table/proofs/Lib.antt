@@ -1,0 +1,5 @@
+pub mod Before
+pub mod Laws
+pub mod Good
+pub mod Find
+pub mod Examples

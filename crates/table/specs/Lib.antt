@@ -1,0 +1,4 @@
+pub mod Table
+pub mod Properties
+pub mod Sample
+pub mod Examples

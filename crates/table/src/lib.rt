@@ -1,0 +1,3 @@
+// The table: its faults, its class, and its properties by name.
+pub mod lookup;
+pub mod validate;
