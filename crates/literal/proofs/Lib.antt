@@ -1,0 +1,3 @@
+pub mod Laws
+pub mod Sorts
+pub mod Examples

@@ -1,0 +1,5 @@
+pub mod Integer
+pub mod RealLiteral
+pub mod Literal
+pub mod Sort
+pub mod Examples

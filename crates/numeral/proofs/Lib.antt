@@ -1,0 +1,5 @@
+pub mod Laws
+pub mod Longest
+pub mod Fit
+pub mod Bounds
+pub mod Local

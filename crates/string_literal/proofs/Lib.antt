@@ -1,0 +1,9 @@
+pub mod Bounds
+pub mod Laws
+pub mod Filling
+pub mod Induction
+pub mod Ends
+pub mod Ascii
+pub mod Fit
+pub mod Local
+pub mod Characters

@@ -1,0 +1,3 @@
+pub mod Char
+pub mod Text
+pub mod Abnf

@@ -1,0 +1,6 @@
+pub mod Spans
+pub mod Laws
+pub mod Maximal
+pub mod Examples
+pub mod Steps
+pub mod Local

@@ -1,0 +1,3 @@
+pub mod Token
+pub mod Examples
+pub mod Grammar
