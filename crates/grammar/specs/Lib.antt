@@ -1,0 +1,3 @@
+pub mod Abnf
+pub mod Limits
+pub mod Examples

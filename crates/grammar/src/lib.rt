@@ -1,0 +1,1 @@
+// DSP0212's first grammar group as ABNF, and the theorems that `syntax` reads exactly what derives from it; no code of its own.

@@ -1,0 +1,27 @@
+use mathlib.Core.Path.{_≡_, refl, sym, _∙_, ap}
+use mathlib.Core.Bool.{Bool, true, false, _&&_, _||_}
+use Rattle.terminal.specs.Terminal.{unsigned}
+use borrow.Author.Needs.{needs}
+use Rattle.terminal.proofs.literal.is_unsigned.Statement.{statement}
+use Rattle.terminal.proofs.literal.is_unsigned.Tie as tie
+use Rattle.terminal.proofs.literal.is_unsigned.Reads as reads
+use Rattle.terminal.proofs.literal.is_unsigned.Lts as lts
+use Rattle.base.proofs.bytes.byte_at.Reads as byte-at-reads
+use Rattle.scan.proofs.in_class.Reads as in-class-reads
+use Rattle.terminal.proofs.kind.is_kind.Reads as is-kind-reads
+
+is-kind-requires : tie.Need-is-kind-requires
+is-kind-requires c κs = search needs
+
+byte-at-requires : tie.Need-byte-at-requires
+byte-at-requires c κs = search needs
+
+in-class-requires : tie.Need-in-class-requires
+in-class-requires c κs = search needs
+
+returns : tie.Need-returns
+unfolding unsigned
+returns c = simp (c .before .before .is-kind .ensures, c .in-class .ensures, c .before .byte-at .ensures)
+
+pub is-unsigned-spec : {M : Type 1} → statement M
+is-unsigned-spec = tie.close (tie.spec is-kind-requires byte-at-requires in-class-requires returns)

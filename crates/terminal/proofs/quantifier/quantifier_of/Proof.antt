@@ -1,0 +1,31 @@
+use mathlib.Core.Path.{_≡_, refl, sym, _∙_, ap}
+use mathlib.Core.Bool.{Bool, true, false, _&&_, _||_}
+use Rattle.terminal.specs.Terminal.{quantifying}
+use borrow.Author.Needs.{needs}
+use Rattle.terminal.proofs.quantifier.quantifier_of.Statement.{statement}
+use Rattle.terminal.proofs.quantifier.quantifier_of.Tie as tie
+use Rattle.terminal.proofs.quantifier.quantifier_of.Reads as reads
+use Rattle.terminal.proofs.quantifier.quantifier_of.Lts as lts
+use Rattle.terminal.proofs.kind.is_kind.Reads as is-kind-reads
+
+is-kind-requires : tie.Need-is-kind-requires
+is-kind-requires c κs = search needs
+
+returns : tie.Need-returns
+unfolding quantifying
+returns c = simp (← c .before .is-kind .ensures, c .if1 .taken)
+
+is-kind-requires-2 : tie.Need-is-kind-requires-2
+is-kind-requires-2 c κs = search needs
+
+returns-2 : tie.Need-returns-2
+unfolding quantifying
+returns-2 c = simp (← c .before .before .before .is-kind .ensures, c .before .before .if1 .left, ← c .before .is-kind2 .ensures, c .if2 .taken)
+
+returns-3 : tie.Need-returns-3
+unfolding quantifying
+returns-3 c = simp (← c .before .before .before .is-kind .ensures, c .before .before .if1 .left, ← c .before .is-kind2 .ensures, c .if2 .left)
+
+pub quantifier-of-spec : {M : Type 1} → statement M
+quantifier-of-spec =
+    tie.close (tie.spec is-kind-requires returns is-kind-requires-2 returns-2 returns-3)
