@@ -1,0 +1,68 @@
+use Rattle.value.proofs.Ordering as law
+use Rattle.value.specs.Compare.{orderOfScalars}
+use Rattle.value.specs.Item.{itemValue}
+use mathlib.Core.Path.{_≡_, refl, _∙_}
+use borrow.Author.Needs.{needs}
+use Rattle.value.proofs.compare.compare_items.Statement.{statement}
+use Rattle.value.proofs.compare.compare_items.Tie as tie
+use Rattle.value.proofs.compare.compare_items.Reads as reads
+use Rattle.value.proofs.compare.compare_items.Lts as lts
+use Rattle.base.proofs.order.holds_for.Reads as holds-for-reads
+use Rattle.value.proofs.compare.null_holds.Reads as null-holds-reads
+use Rattle.value.proofs.compare.order_of_items.Reads as order-of-items-reads
+use Rattle.value.proofs.item.is_null.Reads as is-null-reads
+
+-- src/compare.rt:152:8
+is-null-requires : tie.Need-is-null-requires
+is-null-requires c κs = search needs
+
+-- src/compare.rt:153:31
+is-null-requires-2 : tie.Need-is-null-requires-2
+is-null-requires-2 c κs = search needs
+
+-- src/compare.rt:153:9
+null-holds-requires : tie.Need-null-holds-requires
+null-holds-requires c κs = search needs
+
+-- src/compare.rt:153:9
+returns : tie.Need-returns
+returns c = search law.left-null
+
+-- src/compare.rt:155:8
+is-null-requires-3 : tie.Need-is-null-requires-3
+is-null-requires-3 c κs = search needs
+
+-- src/compare.rt:156:9
+null-holds-requires-2 : tie.Need-null-holds-requires-2
+null-holds-requires-2 c κs = search needs
+
+-- src/compare.rt:156:9
+returns-2 : tie.Need-returns-2
+returns-2 c = search law.right-null
+
+-- src/compare.rt:158:19
+order-of-items-requires : tie.Need-order-of-items-requires
+order-of-items-requires c κs = search needs
+
+-- src/compare.rt:158:5
+holds-for-requires : tie.Need-holds-for-requires
+holds-for-requires c κs = search needs
+
+-- src/compare.rt:149:1
+returns-3 : tie.Need-returns-3
+returns-3 c = search law.no-null
+
+pub compare-items-spec : {M : Type 1} → statement M
+compare-items-spec =
+    tie.close
+    (tie.spec
+    is-null-requires
+    is-null-requires-2
+    null-holds-requires
+    returns
+    is-null-requires-3
+    null-holds-requires-2
+    returns-2
+    order-of-items-requires
+    holds-for-requires
+    returns-3)

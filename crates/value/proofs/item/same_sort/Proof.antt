@@ -1,0 +1,21 @@
+use borrow.Author.Needs.{needs}
+use Rattle.value.proofs.item.same_sort.Statement.{statement}
+use Rattle.value.proofs.item.same_sort.Tie as tie
+use Rattle.value.proofs.item.same_sort.Reads as reads
+use Rattle.value.proofs.item.same_sort.Lts as lts
+use Rattle.value.proofs.item.sort_number.Reads as sort-number-reads
+
+-- src/item.rt:45:5
+sort-number-requires : tie.Need-sort-number-requires
+sort-number-requires c κs = search needs
+
+-- src/item.rt:45:23
+sort-number-requires-2 : tie.Need-sort-number-requires-2
+sort-number-requires-2 c κs = search needs
+
+-- src/item.rt:42:1
+returns : tie.Need-returns
+returns c = rw (c .before .sort-number .ensures, c .sort-number2 .ensures)
+
+pub same-sort-spec : {M : Type 1} → statement M
+same-sort-spec = tie.close (tie.spec sort-number-requires sort-number-requires-2 returns)

@@ -1,0 +1,23 @@
+use mathlib.Core.Path.{_≡_, refl, ap, _∙_}
+use Rattle.value.proofs.Reading as law
+use borrow.Author.Needs.{needs}
+use Rattle.value.proofs.read.read_item.Statement.{statement}
+use Rattle.value.proofs.read.read_item.Tie as tie
+use Rattle.value.proofs.read.read_item.Reads as reads
+use Rattle.value.proofs.read.read_item.Lts as lts
+use Rattle.value.proofs.read.read_family.Reads as read-family-reads
+
+-- src/read.rt:79:9
+returns : tie.Need-returns
+returns c = search law.item-null
+
+-- src/read.rt:82:5
+read-family-requires : tie.Need-read-family-requires
+read-family-requires c κs = search needs
+
+-- src/read.rt:75:1
+returns-2 : tie.Need-returns-2
+returns-2 c = search law.item-some
+
+pub read-item-spec : {M : Type 1} → statement M
+read-item-spec = tie.close (tie.spec returns read-family-requires returns-2)

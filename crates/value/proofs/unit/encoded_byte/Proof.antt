@@ -1,0 +1,51 @@
+use borrow.Author.Needs.{needs}
+use Rattle.value.proofs.Laws as law
+use native.Mathlib.Omega.{arith}
+use mathlib.Core.Path.{_≡_}
+use Rattle.value.proofs.unit.encoded_byte.Statement.{statement}
+use Rattle.value.proofs.unit.encoded_byte.Tie as tie
+use Rattle.value.proofs.unit.encoded_byte.Reads as reads
+use Rattle.value.proofs.unit.encoded_byte.Lts as lts
+use Rattle.value.proofs.unit.byte_of_four.Reads as byte-of-four-reads
+use Rattle.value.proofs.unit.byte_of_three.Reads as byte-of-three-reads
+use Rattle.value.proofs.unit.byte_of_two.Reads as byte-of-two-reads
+
+-- src/unit.rt:146:9
+returns : tie.Need-returns
+returns c = search law.one-byte
+
+-- src/unit.rt:149:9
+byte-of-two-requires : tie.Need-byte-of-two-requires
+byte-of-two-requires c κs = (search needs, search law.two-room)
+
+-- src/unit.rt:149:9
+returns-2 : tie.Need-returns-2
+returns-2 c = search law.two-byte
+
+-- src/unit.rt:152:9
+byte-of-three-requires : tie.Need-byte-of-three-requires
+byte-of-three-requires c κs = (search needs, search law.three-room)
+
+-- src/unit.rt:152:9
+returns-3 : tie.Need-returns-3
+returns-3 c = search law.three-byte
+
+-- src/unit.rt:154:5
+byte-of-four-requires : tie.Need-byte-of-four-requires
+byte-of-four-requires c κs = (search needs, search law.four-room)
+
+-- src/unit.rt:141:1
+returns-4 : tie.Need-returns-4
+returns-4 c = search law.four-byte
+
+pub encoded-byte-spec : {M : Type 1} → statement M
+encoded-byte-spec =
+    tie.close
+    (tie.spec
+    returns
+    byte-of-two-requires
+    returns-2
+    byte-of-three-requires
+    returns-3
+    byte-of-four-requires
+    returns-4)

@@ -1,0 +1,27 @@
+use borrow.Author.Needs.{needs}
+use Rattle.value.proofs.Laws as law
+use native.Mathlib.Omega.{arith}
+use mathlib.Core.Path.{_≡_}
+use Rattle.value.proofs.unit.encoded_length.Statement.{statement}
+use Rattle.value.proofs.unit.encoded_length.Tie as tie
+use Rattle.value.proofs.unit.encoded_length.Reads as reads
+use Rattle.value.proofs.unit.encoded_length.Lts as lts
+
+-- src/unit.rt:129:9
+returns : tie.Need-returns
+returns c = (search law.one-length, search needs)
+
+-- src/unit.rt:132:9
+returns-2 : tie.Need-returns-2
+returns-2 c = (search law.two-length, search needs)
+
+-- src/unit.rt:135:9
+returns-3 : tie.Need-returns-3
+returns-3 c = (search law.three-length, search needs)
+
+-- src/unit.rt:125:1
+returns-4 : tie.Need-returns-4
+returns-4 c = (search law.four-length, search needs)
+
+pub encoded-length-spec : {M : Type 1} → statement M
+encoded-length-spec = tie.close (tie.spec returns returns-2 returns-3 returns-4)

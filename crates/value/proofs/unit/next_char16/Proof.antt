@@ -1,0 +1,22 @@
+use Rattle.value.proofs.Laws as law
+use borrow.Author.Needs.{needs}
+use Rattle.value.proofs.unit.next_char16.Statement.{statement}
+use Rattle.value.proofs.unit.next_char16.Tie as tie
+use Rattle.value.proofs.unit.next_char16.Reads as reads
+use Rattle.value.proofs.unit.next_char16.Lts as lts
+use Rattle.record.proofs.read.number_at.Reads as number-at-reads
+
+-- src/unit.rt:56:27
+number-at-requires : tie.Need-number-at-requires
+number-at-requires c κs = search needs
+
+-- src/unit.rt:56:9
+returns : tie.Need-returns
+returns c = search law.char16-next
+
+-- src/unit.rt:52:1
+returns-2 : tie.Need-returns-2
+returns-2 c = search law.char16-end
+
+pub next-char16-spec : {M : Type 1} → statement M
+next-char16-spec = tie.close (tie.spec number-at-requires returns returns-2)

@@ -1,0 +1,5 @@
+pub mod Compare
+pub mod Unit
+pub mod Item
+pub mod Read
+pub mod Examples

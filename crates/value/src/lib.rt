@@ -1,0 +1,5 @@
+// Values of instances, read from their bytes, and their comparison.
+pub mod compare;
+pub mod item;
+pub mod read;
+pub mod unit;

@@ -1,0 +1,18 @@
+use Rattle.value_literal.proofs.Laws as law
+use borrow.Author.Needs.{needs}
+use Rattle.value_literal.proofs.quoted.Statement.{statement}
+use Rattle.value_literal.proofs.quoted.Tie as tie
+use Rattle.value_literal.proofs.quoted.Reads as reads
+use Rattle.value_literal.proofs.quoted.Lts as lts
+use Rattle.value_literal.proofs.after_quote.Reads as after-quote-reads
+
+-- src/lib.rt:36:9
+after-quote-requires : tie.Need-after-quote-requires
+after-quote-requires c κs = search needs
+
+-- src/lib.rt:33:1
+returns : tie.Need-returns
+returns c = search law.quoted-units
+
+pub quoted-spec : {M : Type 1} → statement M
+quoted-spec = tie.close (tie.spec after-quote-requires returns)

@@ -1,0 +1,3 @@
+pub mod LiteralValue
+pub mod DatetimeText
+pub mod Examples
