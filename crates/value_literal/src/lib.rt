@@ -20,7 +20,7 @@ ghost use Rattle.instance.specs.Value as value;
 ghost use Rattle.value_literal.specs.LiteralValue.{textOf, octetsOf, afterQuote, textValue, literalValue};
 
 // The place after a quote, within the query.
-fn after_quote(q: &[u8], start: usize) -> usize
+pub fn after_quote(q: &[u8], start: usize) -> usize
     ensures { λ r. ⌜ r ≡ afterQuote (now (q .entry)) start ⌝ }
 {
     if start < q.len() {

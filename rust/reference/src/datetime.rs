@@ -1,6 +1,7 @@
 //! Datetimes by counting days one year and one month at a time.
 
 use std::cmp::Ordering;
+use std::sync::OnceLock;
 
 #[derive(Clone, Copy, Debug, PartialEq, Eq)]
 pub enum Datetime {
@@ -10,11 +11,11 @@ pub enum Datetime {
     Interval(i128),
 }
 
-fn is_leap(year: i128) -> bool {
-    (year % 4 == 0 && year % 100 != 0) || year % 400 == 0
+fn is_leap(year: u32) -> bool {
+    (year.is_multiple_of(4) && !year.is_multiple_of(100)) || year.is_multiple_of(400)
 }
 
-fn month_length(year: i128, month: i128) -> i128 {
+fn month_length(year: u32, month: u32) -> u32 {
     match month {
         4 | 6 | 9 | 11 => 30,
         2 if is_leap(year) => 29,
@@ -23,10 +24,22 @@ fn month_length(year: i128, month: i128) -> i128 {
     }
 }
 
-fn days_before(year: i128, month: i128, day: i128) -> i128 {
-    let years: i128 = (0..year).map(|y| if is_leap(y) { 366 } else { 365 }).sum();
-    let months: i128 = (1..month).map(|m| month_length(year, m)).sum();
-    years + months + day - 1
+/// The days before each year, counted once, one year after the other.
+fn days_before_year(year: u32) -> u32 {
+    static DAYS: OnceLock<Vec<u32>> = OnceLock::new();
+    let counted = DAYS.get_or_init(|| {
+        let mut days = vec![0];
+        for y in 0..9_999 {
+            days.push(days[y as usize] + if is_leap(y) { 366 } else { 365 });
+        }
+        days
+    });
+    counted[year as usize]
+}
+
+fn days_before(year: u32, month: u32, day: u32) -> i128 {
+    let months: u32 = (1..month).map(|m| month_length(year, m)).sum();
+    i128::from(days_before_year(year) + months + day - 1)
 }
 
 fn number(text: &[u8]) -> Option<i128> {
@@ -48,7 +61,8 @@ pub fn parse(text: &[u8]) -> Option<Datetime> {
     if text[21] == b':' {
         return (zone == 0).then_some(Datetime::Interval(days * 86_400_000_000 + clock));
     }
-    let (year, month, day) = (days / 10_000, days / 100 % 100, days % 100);
+    let date = days as u32;
+    let (year, month, day) = (date / 10_000, date / 100 % 100, date % 100);
     if !(1..=12).contains(&month) || day < 1 || day > month_length(year, month) {
         return None;
     }

@@ -1,10 +1,23 @@
 //! A second reading of the papers, for comparison in tests. It is written for plainness, allocates freely and shares no
 //! code, table or definition with the proved engine.
 
+pub mod cases;
+pub mod check;
 pub mod datetime;
+pub mod evaluate;
+pub mod examples;
+pub mod instance;
+pub mod literal;
+pub mod meaning;
 pub mod pattern;
 pub mod queries;
 pub mod random;
 pub mod record;
+pub mod refusal;
 pub mod syntax;
 pub mod token;
+pub mod value;
+
+pub use check::check;
+pub use evaluate::{bound, evaluate, Answer};
+pub use refusal::Refusal;

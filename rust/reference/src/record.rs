@@ -53,13 +53,13 @@ pub fn is_kind(kind: u16) -> bool {
     matches!(kind, 1..=10 | 0x0101..=0x010a)
 }
 
-#[derive(Debug)]
+#[derive(Clone, Debug)]
 pub struct Property {
     pub name: Vec<u8>,
     pub kind: u16,
 }
 
-#[derive(Debug)]
+#[derive(Clone, Debug)]
 pub struct Table {
     pub class: Vec<u8>,
     pub properties: Vec<Property>,
@@ -89,6 +89,11 @@ impl Table {
             Some(start) => Err((2, start as u64)),
             None => Ok(Table { class, properties }),
         }
+    }
+
+    pub fn write(&self) -> Vec<u8> {
+        let class = write(0x0200, &self.class);
+        self.properties.iter().fold(class, |out, p| [out, write(p.kind, &p.name)].concat())
     }
 
     /// The number of the property with this name, and its kind.

@@ -1,0 +1,146 @@
+-- What check and evaluate say of 01's starred examples, computed from their definitions.
+use mathlib.Core.Path.{_≡_, refl}
+use lib.Ieee.{ofInt, ofBits, mul, div, neg, round, lt, eq}
+use Rattle.base.specs.Vectors.{results, expected}
+use Rattle.base.specs.Digit as base-digit
+use Rattle.base.specs.LittleEndian as base-little-endian
+use Rattle.base.specs.Order as base-order
+use Rattle.base.specs.Part as base-part
+use Rattle.base.specs.Range as base-range
+use Rattle.base.specs.Walk as base-walk
+use Rattle.unicode.specs.Characters as unicode-characters
+use Rattle.unicode.specs.Lead as unicode-lead
+use Rattle.unicode.specs.Scalar as unicode-scalar
+use Rattle.unicode.specs.WellFormed as unicode-well-formed
+use Rattle.record.specs.Kind as record-kind
+use Rattle.record.specs.Name as record-name
+use Rattle.record.specs.Record as record-record
+use Rattle.record.specs.Reserved as record-reserved
+use Rattle.record.specs.Write as record-write
+use Rattle.real.specs.Real as real-real
+use Rattle.real.specs.Scale as real-scale
+use Rattle.datetime.specs.Calendar as datetime-calendar
+use Rattle.datetime.specs.Datetime as datetime-datetime
+use Rattle.datetime.specs.Text as datetime-text
+use Rattle.pattern.specs.Character as pattern-character
+use Rattle.pattern.specs.Fragment as pattern-fragment
+use Rattle.pattern.specs.Reading as pattern-reading
+use Rattle.pattern.specs.Regex as pattern-regex
+use Rattle.pattern.specs.Run as pattern-run
+use Rattle.table.specs.Properties as table-properties
+use Rattle.table.specs.Table as table-table
+use Rattle.instance.specs.Body as instance-body
+use Rattle.instance.specs.Conforms as instance-conforms
+use Rattle.instance.specs.Fault as instance-fault
+use Rattle.instance.specs.Start as instance-start
+use Rattle.instance.specs.Value as instance-value
+use Rattle.scan.specs.Class as scan-class
+use Rattle.numeral.specs.Numeral as numeral-numeral
+use Rattle.string_literal.specs.Abnf as string-literal-abnf
+use Rattle.string_literal.specs.Char as string-literal-char
+use Rattle.string_literal.specs.Text as string-literal-text
+use Rattle.token.specs.Token as token-token
+use Rattle.literal.specs.Integer as literal-integer
+use Rattle.literal.specs.Literal as literal-literal
+use Rattle.literal.specs.RealLiteral as literal-real-literal
+use Rattle.literal.specs.Sort as literal-sort
+use Rattle.terminal.specs.Terminal as terminal-terminal
+use Rattle.syntax.specs.Comparison as syntax-comparison
+use Rattle.syntax.specs.Property as syntax-property
+use Rattle.syntax.specs.Query as syntax-query
+use Rattle.syntax.specs.Text as syntax-text
+use Rattle.syntax.specs.Tree as syntax-tree
+use Rattle.value.specs.Compare as value-compare
+use Rattle.value.specs.Item as value-item
+use Rattle.value.specs.Read as value-read
+use Rattle.value.specs.Unit as value-unit
+use Rattle.value_literal.specs.LiteralValue as value-literal-literal-value
+use Rattle.short_circuit.specs.Count as short-circuit-count
+use Rattle.short_circuit.specs.Walk as short-circuit-walk
+use Rattle.operand.specs.Element as operand-element
+use Rattle.operand.specs.Index as operand-index
+use Rattle.operand.specs.LiteralReading as operand-literal-reading
+use Rattle.operand.specs.Named as operand-named
+use Rattle.operand.specs.PatternLiteral as operand-pattern-literal
+use Rattle.predicate.specs.Place as predicate-place
+use Rattle.predicate.specs.Test as predicate-test
+use Rattle.judge.specs.Environment as judge-environment
+use Rattle.judge.specs.Meaning as judge-meaning
+use Rattle.filter.specs.Check as filter-check
+use Rattle.filter.specs.Evaluate as filter-evaluate
+use Rattle.filter.specs.Meaning as filter-meaning
+use Rattle.filter.specs.Refusal as filter-refusal
+use Rattle.examples.specs.Starred.{outcomes, starred}
+
+pub starred-right : results outcomes starred ≡ expected starred
+unfolding
+    ofInt ofBits mul div neg round lt eq base-walk.walk
+    base-digit.digitOf base-digit.allDigits base-digit.valueOf base-digit.sizeUnder
+    base-little-endian.unsigned base-little-endian.twosComplement
+    base-order.orderOfWhole
+    base-part.sameBytes
+    base-range.within
+    base-walk.from
+    unicode-characters.charactersFrom
+    unicode-lead.startsWith unicode-lead.rowIn unicode-lead.rowOf unicode-lead.leadLength unicode-lead.secondLow unicode-lead.secondHigh
+    unicode-scalar.isScalarValue unicode-scalar.scalarOf unicode-scalar.scalarAt unicode-scalar.encode
+    unicode-well-formed.inRange unicode-well-formed.fits unicode-well-formed.sequenceIn unicode-well-formed.sequenceAt unicode-well-formed.illFormedFrom
+    record-kind.scalarKind record-kind.kindOf
+    record-name.letter record-name.nameByte record-name.all record-name.validName record-name.lower record-name.sameName
+    record-record.recordAt record-record.records
+    record-reserved.reservedWords record-reserved.among record-reserved.isReserved
+    record-write.littleEndian record-write.write
+    real-real.magnitude real-real.realOf
+    real-scale.scaleOf
+    datetime-calendar.leapYears datetime-calendar.daysBeforeMonth
+    datetime-datetime.datetimeOf
+    datetime-text.shaped datetime-text.dateIn datetime-text.timeIn
+    pattern-character.special pattern-character.startsWith
+    pattern-fragment.fragmentOf
+    pattern-reading.escaped pattern-reading.member pattern-reading.range pattern-reading.members pattern-reading.setFrom pattern-reading.symbol pattern-reading.repeated pattern-reading.symbolItem pattern-reading.ends pattern-reading.parse pattern-reading.alternatives pattern-reading.sequence pattern-reading.item
+    pattern-regex.inRanges pattern-regex.standsFor
+    pattern-run.nullable pattern-run.final pattern-run.shift pattern-run.withLive pattern-run.run pattern-run.likes
+    table-properties.kindsIn table-properties.namesIn table-properties.namesBefore table-properties.findIn table-properties.findProperty
+    table-table.properties table-table.tableReading
+    instance-body.booleanFits instance-body.textFits instance-body.char16Fits instance-body.datetimeFits
+    instance-conforms.count
+    instance-fault.elementsFit instance-fault.furtherFault instance-fault.faultIn instance-fault.faultUnder instance-fault.stepAt
+    instance-start.startOf
+    instance-value.familyValue instance-value.elements instance-value.valueAt instance-value.environmentUnder
+    scan-class.white scan-class.inClass scan-class.span scan-class.run
+    numeral-numeral.signed numeral-numeral.unsignedInteger numeral-numeral.decimalLiteral numeral-numeral.binaryBody numeral-numeral.binaryLiteral numeral-numeral.hexPairs numeral-numeral.hexBody numeral-numeral.hexLiteral numeral-numeral.exactNumeric numeral-numeral.exponentPart numeral-numeral.realBody numeral-numeral.realLiteral
+    string-literal-abnf.member
+    string-literal-char.unicodeChar string-literal-char.rawAt string-literal-char.plainEscape string-literal-char.hexRun string-literal-char.unicodeEscape string-literal-char.escapeAt string-literal-char.charAt
+    string-literal-text.textAt string-literal-text.charactersOf string-literal-text.bytesOf string-literal-text.endOr string-literal-text.stringLiteral string-literal-text.filled
+    token-token.isToken token-token.fitted token-token.longer token-token.wordKind token-token.wordToken token-token.numberToken token-token.textToken token-token.pairKind token-token.singleKind token-token.symbolOf token-token.symbolToken token-token.longestAt token-token.tokenFrom token-token.tokenAt token-token.wordOrNumber token-token.apart token-token.tokenAfter
+    literal-integer.baseOf literal-integer.leadOf literal-integer.digitCount literal-integer.magnitudeFrom literal-integer.magnitude literal-integer.withSign literal-integer.integerBy literal-integer.integerOf
+    literal-literal.wordLiteral literal-literal.hexLiteralOf literal-literal.numberLiteral literal-literal.literalOf
+    literal-real-literal.digitsOf literal-real-literal.exponentSize literal-real-literal.exponentBelow literal-real-literal.realFrom literal-real-literal.realLiteralOf
+    literal-sort.wordSort literal-sort.formSort literal-sort.sortOf literal-sort.unsignedHex
+    terminal-terminal.same terminal-terminal.word terminal-terminal.literal terminal-terminal.comparing terminal-terminal.joining terminal-terminal.quantifying terminal-terminal.opening terminal-terminal.unsigned
+    syntax-comparison.leftOf syntax-comparison.leftBy syntax-comparison.leftAt syntax-comparison.leftSide syntax-comparison.notLike syntax-comparison.like syntax-comparison.operationBy syntax-comparison.operation syntax-comparison.elements syntax-comparison.listFrom syntax-comparison.arrayLiteral syntax-comparison.operandOf syntax-comparison.operand syntax-comparison.pattern syntax-comparison.rightSide syntax-comparison.compOf syntax-comparison.compOperation syntax-comparison.compLeft syntax-comparison.propertyComp
+    syntax-property.oneMore syntax-property.dotted syntax-property.property syntax-property.closeIndex syntax-property.indexNumber syntax-property.indexed syntax-property.withIndex syntax-property.withPath syntax-property.reference
+    syntax-query.atEnd syntax-query.openGroup syntax-query.outerBy syntax-query.afterGroup syntax-query.outer syntax-query.joinBy syntax-query.joinAfter syntax-query.nextOf syntax-query.nextBy syntax-query.nextComparison syntax-query.before syntax-query.queryFrom syntax-query.startAt syntax-query.queryStart syntax-query.query syntax-query.verdict
+    syntax-text.encodedVerdict syntax-text.textVerdict
+    syntax-tree.front syntax-tree.tree syntax-tree.every syntax-tree.some syntax-tree.holds syntax-tree.total syntax-tree.step syntax-tree.runs
+    value-compare.orderOfScalars value-compare.compares
+    value-item.listed value-item.itemValue
+    value-read.valueInRecord value-read.elementAt
+    value-unit.hexPairs value-unit.utf8After value-unit.unitsFrom
+    value-literal-literal-value.textValue value-literal-literal-value.literalValue
+    short-circuit-count.everySteps short-circuit-count.someSteps short-circuit-count.treeSteps short-circuit-count.sumOf
+    short-circuit-walk.walk short-circuit-walk.walkQuery
+    operand-element.elementsFrom operand-element.firstElement
+    operand-index.indexOf
+    operand-literal-reading.fits operand-literal-reading.noDatetime operand-literal-reading.readLiteral operand-literal-reading.isNullLiteral
+    operand-named.named
+    operand-pattern-literal.patternOf
+    predicate-place.bodyAt predicate-place.bodyValue predicate-place.valueRead predicate-place.literalValues predicate-place.asText
+    predicate-test.sameElements predicate-test.sameArrays predicate-test.someHolds predicate-test.allHold predicate-test.searchHolds predicate-test.likeHolds predicate-test.truth predicate-test.pairsSeen predicate-test.arraySteps predicate-test.elementsSeen predicate-test.searchSteps predicate-test.size predicate-test.steps predicate-test.reads
+    judge-environment.entryNamed
+    judge-meaning.asScalar judge-meaning.asArray judge-meaning.elementOf judge-meaning.leftScalar judge-meaning.leftArray judge-meaning.elements judge-meaning.rightScalar judge-meaning.rightArray judge-meaning.rightKind judge-meaning.rightProperty judge-meaning.rightOf judge-meaning.both judge-meaning.ordered judge-meaning.meet judge-meaning.meantBy judge-meaning.meantAs judge-meaning.meaning
+    filter-check.first filter-check.demand filter-check.eachToken filter-check.checkRightName filter-check.shapeOf filter-check.leftShape filter-check.rightShape filter-check.beside filter-check.isFitting filter-check.allFit filter-check.rowFits filter-check.orderFits filter-check.checkIndex filter-check.checkLeftIndex filter-check.checkRanges filter-check.checkPattern filter-check.checkDatetimes filter-check.checkKind filter-check.checkComparison filter-check.checkAll filter-check.check
+    filter-evaluate.evaluate filter-evaluate.steps filter-evaluate.bound
+    filter-meaning.truthOf filter-meaning.stepsOf filter-meaning.readsOf filter-meaning.unlessFailing filter-meaning.queryMeaning filter-meaning.querySteps filter-meaning.queryBound
+    filter-refusal.callOf
+starred-right = refl

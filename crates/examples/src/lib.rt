@@ -1,0 +1,1 @@
+// No code: 01's worked examples, computed from the definitions.

@@ -1,0 +1,264 @@
+-- One law for each exit of `src/`.
+use Prim.Native.Nat.{ℕ, zero, suc, _+_, _-_, _*_, _≤_, _<_}
+use mathlib.Core.Path.{_≡_, refl, sym, ap, _∙_, subst}
+use mathlib.Core.List.{List}
+use mathlib.Core.Logic.{_↔_}
+use mathlib.Core.Bool.{Bool, true, false, _&&_}
+use native.Mathlib.Omega.{arith}
+use borrow.Author.Tests.{ltb-true, ltb-false}
+use lib.ListN.{length}
+use lib.Dec.{ltb}
+use Rattle.base.specs.Pick.{pick}
+use Rattle.unicode.specs.declared.text.Utf8.{Utf8}
+use Rattle.unicode.specs.declared.text.Utf8.the-variants as Utf8
+use Rattle.unicode.specs.WellFormed.{firstIllFormed}
+use Rattle.table.specs.Table.{tableReading}
+use Rattle.table.specs.declared.validate.TableReading.{TableReading}
+use Rattle.table.specs.declared.validate.TableReading.the-variants as table-reading
+use Rattle.table.specs.declared.validate.TableFault.{TableFault}
+use Rattle.token.specs.declared.Token.{Token}
+use Rattle.terminal.specs.Terminal.{opening}
+use Rattle.syntax.specs.declared.comparison.Comparison.{Comparison}
+use Rattle.syntax.specs.declared.fault.Fault.{Fault}
+use Rattle.syntax.specs.declared.join.Join.{Join}
+use Rattle.syntax.specs.declared.query.NextResult.{NextResult}
+use Rattle.syntax.specs.declared.query.NextResult.the-variants.{HasNext, NoNext}
+use Rattle.syntax.specs.declared.query.QueryStart.{QueryStart}
+use Rattle.syntax.specs.declared.query.Verdict.{Verdict}
+use Rattle.syntax.specs.declared.query.Verdict.the-variants as text-verdict
+use Rattle.syntax.specs.declared.fault.Cause.the-variants.{Length, Encoding}
+use Rattle.syntax.specs.Scan.{scan, fault}
+use Rattle.syntax.specs.Query.{Comparisons, only, more, Query, bad, good, before, lastJoin, nextComparison, queryFrom, queryStart, query, verdict}
+use Rattle.syntax.specs.Text.{textVerdict, encodedVerdict}
+use Rattle.syntax.specs.Tree.{tree, holds}
+use Rattle.syntax.proofs.Laws.{from-out, from-bad, from-last, from-more}
+use Rattle.short_circuit.specs.declared.Told.{Told}
+use Rattle.short_circuit.specs.Count.{treeSteps}
+use Rattle.short_circuit.specs.Walk.{told, initial, walkQuery}
+use Rattle.short_circuit.proofs.Loop.{walk-good}
+use Rattle.instance.specs.Fault.{conformity}
+use Rattle.instance.specs.declared.conform.InstanceFault.{InstanceFault}
+use Rattle.instance.specs.declared.conform.Conformity.{Conformity}
+use Rattle.instance.specs.declared.conform.Conformity.the-variants as conformity
+use Rattle.instance.proofs.Decides.{IsLong, long-exactly}
+use Rattle.operand.specs.declared.cause.Cause as comparison-cause
+use Rattle.judge.specs.declared.Judged.{Judged}
+use Rattle.judge.specs.declared.Judged.the-variants.{Fails, Tells}
+use Rattle.judge.specs.Meaning.{Meant, fails, means, meaning}
+use Rattle.judge.specs.Environment.{entryNamed}
+use Rattle.judge.specs.Answers.{judged}
+use Rattle.filter.specs.Refusal.{Call, refused, compares, callFault, callQuery, callText, callUnder, callOf}
+use Rattle.filter.specs.Check as check
+use Rattle.filter.specs.Check.{passes, breaks, first, checkComparison, checkAll, asChecked, checkCall}
+use Rattle.filter.specs.Meaning.{truthOf, stepsOf, QueryMeaning, truthful, queryMeaning, unlessFailing, querySteps}
+use Rattle.filter.specs.Evaluate.{meantIn, answer, answerIf, answerOf, evaluateCall, evaluate, stepsCall, steps}
+use Rattle.filter.specs.Answers.{checkQuery, truthIn, stepsIn}
+use Rattle.filter.specs.declared.refusal.Cause.the-variants as cause
+use Rattle.filter.specs.declared.refusal.Refusal.{Refusal}
+use Rattle.filter.specs.declared.refusal.Checked.{Checked}
+use Rattle.filter.specs.declared.refusal.Checked.the-variants.{Accepted, Refused}
+use Rattle.filter.specs.declared.refusal.Answer.{Answer}
+use Rattle.filter.specs.declared.refusal.Answer.the-variants as answers
+use Rattle.filter.proofs.Agree.{Agrees, comparison-agrees}
+use Rattle.filter.proofs.QueryAgree.{Tied, truthCall, tied}
+use Rattle.filter.proofs.Demand3.{refused-same}
+
+-- ---- a comparison, judged in any instance
+fails-refused : (v : check.Verdict) (m : Meant) → Agrees v m → (k : comparison-cause.Cause) (p : ℕ) → Fails k p ≡ judged m
+    → Refused (record { cause = cause.Comparison k; place = p }) ≡ asChecked v
+unfolding judged
+fails-refused passes (means x) a k p e = let z : _≡_ {A = ℕ} 0 1 = cc in absurd (omega arith)
+fails-refused passes (fails c o) a k p e = absurd a
+fails-refused (breaks c o) (means x) a k p e = absurd a
+fails-refused (breaks c o) (fails d r) (f, g) k p e = cc
+
+tells-accepted : (v : check.Verdict) (m : Meant) → Agrees v m → (x : Told) → Tells x ≡ judged m → Accepted ≡ asChecked v
+unfolding judged
+tells-accepted passes m a x e = refl
+tells-accepted (breaks c o) (means y) a x e = absurd a
+tells-accepted (breaks c o) (fails d r) a x e = let z : _≡_ {A = ℕ} 0 1 = cc in absurd (omega arith)
+
+module _ (q t i : List ℕ) (c : Comparison) {r : Judged} (er : r ≡ judged (meaning q (entryNamed q t i) c)) where
+  pub comparison-fails : (k : comparison-cause.Cause) (p : ℕ) → r ≡ Fails k p → Refused (record { cause = cause.Comparison k; place = p }) ≡ asChecked (checkComparison q t c)
+  comparison-fails k p e = fails-refused (checkComparison q t c) (meaning q (entryNamed q t i) c) (comparison-agrees q t i c) k p (sym e ∙ er)
+
+  pub comparison-tells : (x : Told) → r ≡ Tells x → Accepted ≡ asChecked (checkComparison q t c)
+  comparison-tells x e = tells-accepted (checkComparison q t c) (meaning q (entryNamed q t i) c) (comparison-agrees q t i c) x (sym e ∙ er)
+
+-- ---- the comparisons of a text that the grammar takes
+first-refused : (v u : check.Verdict) (x : Refusal) → Refused x ≡ asChecked v → Refused x ≡ asChecked (first v u)
+unfolding first
+first-refused passes u x e = let z : _≡_ {A = ℕ} 0 1 = cc in absurd (omega arith)
+first-refused (breaks c p) u x e = e
+
+first-accepted : (v u : check.Verdict) → Accepted ≡ asChecked v → asChecked (first v u) ≡ asChecked u
+unfolding first
+first-accepted passes u e = refl
+first-accepted (breaks c p) u e = let z : _≡_ {A = ℕ} 0 1 = cc in absurd (omega arith)
+
+no-verdict : (f : Fault) → text-verdict.Refused f ≡ text-verdict.WellFormed → ⊥
+no-verdict f e = let z : _≡_ {A = ℕ} 0 1 = cc in omega arith
+
+module _ (q t : List ℕ) where
+  before-refused : (c : Comparison) (j : Join) (r : Query) (x : Refusal) → verdict (before c j r) ≡ text-verdict.WellFormed → Refused x ≡ asChecked (checkComparison q t c)
+      → Refused x ≡ checkQuery q t (before c j r)
+  unfolding before verdict checkAll
+  before-refused c j (bad f) x ok e = absurd (no-verdict f ok)
+  before-refused c j (good l) x ok e = first-refused (checkComparison q t c) (checkAll q t l) x e
+
+  before-accepted : (c : Comparison) (j : Join) (r : Query) → Accepted ≡ asChecked (checkComparison q t c) → checkQuery q t (before c j r) ≡ checkQuery q t r
+  unfolding before checkAll
+  before-accepted c j (bad f) e = refl
+  before-accepted c j (good l) e = first-accepted (checkComparison q t c) (checkAll q t l) e
+
+  before-verdict : (c : Comparison) (j : Join) (r : Query) → verdict (before c j r) ≡ verdict r
+  unfolding before verdict
+  before-verdict c j (bad f) = refl
+  before-verdict c j (good l) = refl
+
+  module _ (grouped : Bool) (token : Token) (left : ℕ) {whole : Checked} (i : whole ≡ checkQuery q t (queryFrom left (scan q) grouped token))
+      (ok : verdict (queryFrom left (scan q) grouped token) ≡ text-verdict.WellFormed) where
+    pub checked-out : left ≤ 0 → Accepted ≡ whole
+    checked-out h = sym (i ∙ ap (checkQuery q t) (from-out (scan q) grouped token left (opening token) h refl))
+
+    module _ (h : 0 < left) {r : NextResult} (e : r ≡ nextComparison (scan q) grouped token) where
+      pub checked-none : (f : Fault) → r ≡ NoNext f → Accepted ≡ whole
+      checked-none f g = sym (i ∙ ap (checkQuery q t) (from-bad (scan q) grouped token r e left f h g))
+
+      module _ (c : Comparison) (j : Join) (u : Token) (g : r ≡ HasNext c j u) {z : Checked} (ez : z ≡ asChecked (checkComparison q t c)) where
+        pub checked-refused : (x : Refusal) → z ≡ Refused x → Refused x ≡ whole
+        unfolding checkAll
+        checked-refused x f = by (lastJoin j) refl
+          where
+            by : (b : Bool) → b ≡ lastJoin j → Refused x ≡ whole
+            by true y = sym f ∙ ez ∙ sym (i ∙ ap (checkQuery q t) (from-last (scan q) grouped token r e c j u g true y left h refl))
+            by false y =
+                let m = from-more (scan q) grouped token r e c j u g false y left h refl in
+                before-refused c j (queryFrom (left - 1) (scan q) grouped u) x (ap verdict (sym m) ∙ ok) (sym f ∙ ez) ∙ sym (i ∙ ap (checkQuery q t) m)
+
+        module _ (a : z ≡ Accepted) {b : Bool} (eb : b ≡ lastJoin j) where
+          pub checked-last : b ≡ true → Accepted ≡ whole
+          unfolding checkAll
+          checked-last y = sym a ∙ ez ∙ sym (i ∙ ap (checkQuery q t) (from-last (scan q) grouped token r e c j u g b eb left h y))
+
+          pub checked-more : b ≡ false → whole ≡ checkQuery q t (queryFrom (left - 1) (scan q) grouped u)
+          checked-more y =
+              i ∙ ap (checkQuery q t) (from-more (scan q) grouped token r e c j u g b eb left h y)
+              ∙ before-accepted c j (queryFrom (left - 1) (scan q) grouped u) (sym a ∙ ez)
+
+          pub taken-more : b ≡ false → verdict (queryFrom (left - 1) (scan q) grouped u) ≡ text-verdict.WellFormed
+          taken-more y =
+              sym (before-verdict c j (queryFrom (left - 1) (scan q) grouped u)) ∙ ap verdict (sym (from-more (scan q) grouped token r e c j u g b eb left h y)) ∙ ok
+
+  -- as the loop begins
+  module _ (b : QueryStart) (e : b ≡ queryStart (scan q)) where
+    begun : queryFrom 64 (scan q) (b .grouped) (b .token) ≡ query q
+    unfolding query
+    begun = ap (λ (x : QueryStart). queryFrom 64 (scan q) (x .grouped) (x .token)) e
+
+    pub begins-taken : verdict (query q) ≡ text-verdict.WellFormed → verdict (queryFrom 64 (scan q) (b .grouped) (b .token)) ≡ text-verdict.WellFormed
+    begins-taken h = ap verdict begun ∙ h
+
+    pub begins-checked : {x : Checked} → x ≡ checkQuery q t (queryFrom 64 (scan q) (b .grouped) (b .token)) → x ≡ checkQuery q t (query q)
+    begins-checked h = h ∙ ap (checkQuery q t) begun
+
+-- ---- the text, and the table before it
+module _ (q t : List ℕ) where
+  -- a text that is taken is a query
+  pub well-formed : textVerdict q ≡ text-verdict.WellFormed → verdict (query q) ≡ text-verdict.WellFormed
+  unfolding textVerdict encodedVerdict
+  well-formed e = go (ltb 4096 (length q)) (firstIllFormed q) e
+    where
+      go : (b : Bool) (u : Utf8) → pick b (text-verdict.Refused (fault Length 0)) (encodedVerdict q u) ≡ text-verdict.WellFormed → verdict (query q) ≡ text-verdict.WellFormed
+      go true u h = absurd (no-verdict (fault Length 0) h)
+      go false (Utf8.IllFormed p) h = absurd (no-verdict (fault Encoding p) h)
+      go false Utf8.WellFormed h = h
+
+  pub text-refused : {v : Verdict} → v ≡ textVerdict q → (f : Fault) → v ≡ text-verdict.Refused f
+      → Refused (record { cause = cause.Text (f .cause); place = f .place }) ≡ checkCall q t (callText q (textVerdict q))
+  text-refused ev f e = sym (ap (λ (x : Verdict). checkCall q t (callText q x)) (sym ev ∙ e))
+
+  query-checked : (r : Query) → verdict r ≡ text-verdict.WellFormed → checkQuery q t r ≡ checkCall q t (callQuery r)
+  unfolding verdict
+  query-checked (bad f) e = absurd (no-verdict f e)
+  query-checked (good l) e = refl
+
+  pub text-taken : {v : Verdict} → v ≡ textVerdict q → v ≡ text-verdict.WellFormed → {x : Checked} → x ≡ checkQuery q t (query q)
+      → x ≡ checkCall q t (callText q (textVerdict q))
+  text-taken ev e h =
+      h ∙ query-checked (query q) (well-formed (sym ev ∙ e)) ∙ sym (ap (λ (x : Verdict). checkCall q t (callText q x)) (sym ev ∙ e))
+
+  module _ {r : TableReading} (er : r ≡ tableReading t) where
+    pub table-refused : (c : TableFault) (p : ℕ) → r ≡ table-reading.Fault c p → Refused (record { cause = cause.Table c; place = p }) ≡ check.check q t
+    unfolding check.check callOf
+    table-refused c p e = sym (ap (λ (x : TableReading). checkCall q t (callUnder q x)) (sym er ∙ e))
+
+    pub table-taken : (n : ℕ) → r ≡ table-reading.Good n → {x : Checked} → x ≡ checkCall q t (callText q (textVerdict q)) → x ≡ check.check q t
+    unfolding check.check callOf
+    table-taken n e h = h ∙ sym (ap (λ (x : TableReading). checkCall q t (callUnder q x)) (sym er ∙ e))
+
+-- ---- evaluation
+module _ (q t i : List ℕ) {v : Checked} (ev : v ≡ check.check q t) where
+  pub evaluate-refused : (r : Refusal) → v ≡ Refused r → answers.Refused r ≡ evaluate q t i
+  evaluate-refused r e = sym (refused-same q t i (check.check q t) (evaluate q t i) (truthCall q t i (callOf q t)) _ (tied q t i) r (sym ev ∙ e))
+
+-- a call that isn't refused before its comparisons has those of the query
+apart : (c : Rattle.filter.specs.declared.refusal.Cause.Cause) (p : ℕ) (l : Comparisons) → refused c p ≡ compares l → ⊥
+apart c p l e = let z : _≡_ {A = ℕ} 0 1 = cc in omega arith
+
+call-query : (r : Query) (l : Comparisons) → callQuery r ≡ compares l → r ≡ good l
+call-query (bad f) l e = absurd (apart _ _ l e)
+call-query (good k) l e = cc
+
+call-text : (q : List ℕ) (v : Verdict) (l : Comparisons) → callText q v ≡ compares l → query q ≡ good l
+call-text q (text-verdict.Refused f) l e = absurd (apart _ _ l e)
+call-text q text-verdict.WellFormed l e = call-query (query q) l e
+
+call-under : (q : List ℕ) (r : TableReading) (l : Comparisons) → callUnder q r ≡ compares l → query q ≡ good l
+call-under q (table-reading.Fault c p) l e = absurd (apart _ _ l e)
+call-under q (table-reading.Good n) l e = call-text q (textVerdict q) l e
+
+pub call-good : (q t : List ℕ) (l : Comparisons) → callOf q t ≡ compares l → query q ≡ good l
+unfolding callOf
+call-good q t l e = call-under q (tableReading t) l e
+
+-- an instance that conforms isn't too long
+pub short : (t i : List ℕ) {k : Conformity} → k ≡ conformity t i → k ≡ conformity.Conforming → length i ≤ 65535
+short t i ek e = go (ltb 65535 (length i)) refl
+  where
+    go : (b : Bool) → ltb 65535 (length i) ≡ b → length i ≤ 65535
+    go true f = absurd (subst IsLong (sym ek ∙ e) (long-exactly t i .1 (ltb-true 65535 (length i) f)))
+    go false f = ltb-false 65535 (length i) f
+
+module _ (q t i : List ℕ) {v : Checked} (ev : v ≡ check.check q t) (accepted : v ≡ Accepted) {k : Conformity} (ek : k ≡ conformity t i) where
+  -- what an accepted query's evaluation comes to
+  tied-accepted : (c : Checked) (a : Answer) (b : Bool) (n : ℕ) → c ≡ Accepted → Tied q t i c a b n → a ≡ answerIf (conformity t i) b n
+  tied-accepted Accepted a b n e h = h
+  tied-accepted (Refused r) a b n e h = let z : _≡_ {A = ℕ} 0 1 = cc in absurd (omega arith)
+
+  pub evaluates : evaluate q t i ≡ answerIf k (truthCall q t i (callOf q t)) (steps q t i)
+  evaluates =
+      tied-accepted (check.check q t) (evaluate q t i) (truthCall q t i (callOf q t)) (steps q t i) (sym ev ∙ accepted) (tied q t i)
+      ∙ ap (λ (x : Conformity). answerIf x (truthCall q t i (callOf q t)) (steps q t i)) (sym ek)
+
+  pub evaluate-nonconforming : (c : InstanceFault) (p : ℕ) → k ≡ conformity.Fault c p → answers.Refused (record { cause = cause.Instance c; place = p }) ≡ evaluate q t i
+  evaluate-nonconforming c p e = sym (evaluates ∙ ap (λ (x : Conformity). answerIf x (truthCall q t i (callOf q t)) (steps q t i)) e)
+
+  call-refused : (c : Rattle.filter.specs.declared.refusal.Cause.Cause) (p : ℕ) → callOf q t ≡ refused c p → ⊥
+  unfolding check.check
+  call-refused c p e =
+      let f : Accepted ≡ checkCall q t (refused c p) = sym accepted ∙ ev ∙ ap (checkCall q t) e in
+      let z : _≡_ {A = ℕ} 0 1 = cc in
+      omega arith
+
+  walked : (c : Call) → callOf q t ≡ c → walkQuery (truthIn q t i) (stepsIn q t i) initial 0 (query q) ≡ told (truthCall q t i c) (stepsCall (meantIn q t i) c)
+  unfolding querySteps
+  walked (refused c p) e = absurd (call-refused c p e)
+  walked (compares l) e = walk-good (truthIn q t i) (stepsIn q t i) q l (call-good q t l e)
+
+  pub evaluate-answers : k ≡ conformity.Conforming → {x : Told} → x ≡ walkQuery (truthIn q t i) (stepsIn q t i) initial 0 (query q)
+      → {a : Answer} → a ≡ answer (x .holds) (x .steps) → a ≡ evaluate q t i
+  unfolding steps
+  evaluate-answers e ex ea =
+      ea ∙ ap (λ (y : Told). answer (y .holds) (y .steps)) (ex ∙ walked (callOf q t) refl)
+      ∙ sym (evaluates ∙ ap (λ (x : Conformity). answerIf x (truthCall q t i (callOf q t)) (steps q t i)) e)

@@ -1,0 +1,5 @@
+pub mod Agree
+pub mod QueryAgree
+pub mod Demand3
+pub mod Laws
+pub mod Corollaries

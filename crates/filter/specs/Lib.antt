@@ -1,0 +1,6 @@
+pub mod Refusal
+pub mod Check
+pub mod Meaning
+pub mod Evaluate
+pub mod Demand3
+pub mod Answers

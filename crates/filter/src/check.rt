@@ -1,0 +1,98 @@
+// check (query, table).
+use crate::refusal::Cause;
+use crate::refusal::Checked;
+use crate::refusal::Refusal;
+use base::bytes::piece;
+use judge::Judged;
+use judge::judge;
+use syntax::comparison::Comparison;
+use syntax::join::is_last;
+use syntax::query::NextResult;
+use syntax::query::Verdict;
+use syntax::query::open_query;
+use syntax::query::read_next;
+use syntax::text::check_text;
+use table::validate::TableReading;
+use table::validate::read_table;
+use token::Token;
+ghost use mathlib.Core.Path.{_≡_};
+ghost use Rattle.syntax.specs.Scan.{scan};
+ghost use Rattle.syntax.specs.Query.{queryFrom, query, verdict};
+ghost use Rattle.filter.specs.Check as Check;
+ghost use Rattle.filter.specs.Check.{checkComparison, asChecked};
+ghost use Rattle.filter.specs.Answers.{checkQuery};
+
+// A comparison fails in any instance or in none, so that one without records will do.
+fn check_comparison<'a>(q: &'a [u8], t: &'a [u8], c: Comparison) -> Checked
+    ensures { λ r. ⌜ r ≡ asChecked (checkComparison (now (q .entry)) (now (t .entry)) c) ⌝ }
+{
+    match judge(q, t, piece(t, 0, 0), c) {
+        Judged::Fails(cause, place) => Checked::Refused(Refusal {
+            cause: Cause::Comparison(cause),
+            place,
+        }),
+        Judged::Tells(_) => Checked::Accepted,
+    }
+}
+
+// The comparisons from a token on, of a text that the grammar takes.
+fn check_from<'a>(q: &'a [u8], t: &'a [u8], grouped: bool, first: Token) -> Checked
+    requires { ⌜ verdict (queryFrom 64 (scan (now q)) grouped first) ≡ Verdict.WellFormed ⌝ }
+    ensures { λ r. ⌜ r ≡ checkQuery (now (q .entry)) (now (t .entry)) (queryFrom 64 (scan (now (q .entry))) grouped first) ⌝ }
+{
+    let mut token = first;
+    let mut left: usize = 64;
+    while 0 < left {
+        match read_next(q, grouped, token) {
+            NextResult::NoNext(_) => return Checked::Accepted,
+            NextResult::HasNext(c, j, next) => match check_comparison(q, t, c) {
+                Checked::Refused(r) => return Checked::Refused(r),
+                Checked::Accepted => {
+                    if is_last(j) {
+                        return Checked::Accepted;
+                    }
+                    token = next;
+                    left -= 1;
+                }
+            },
+        }
+    }
+    Checked::Accepted
+}
+
+fn check_comparisons<'a>(q: &'a [u8], t: &'a [u8]) -> Checked
+    requires { ⌜ verdict (query (now q)) ≡ Verdict.WellFormed ⌝ }
+    ensures { λ r. ⌜ r ≡ checkQuery (now (q .entry)) (now (t .entry)) (query (now (q .entry))) ⌝ }
+{
+    let o = open_query(q);
+    let token = o.token;
+    check_from(q, t, o.grouped, token)
+}
+
+fn check_under<'a>(q: &'a [u8], t: &'a [u8]) -> Checked
+    ensures { λ r. ⌜ r ≡ Check.checkCall (now (q .entry)) (now (t .entry)) (Rattle.filter.specs.Refusal.callText (now (q .entry)) (Rattle.syntax.specs.Text.textVerdict (now (q .entry)))) ⌝ }
+{
+    match check_text(q) {
+        Verdict::Refused(f) => {
+            let cause = f.cause;
+            Checked::Refused(Refusal {
+                cause: Cause::Text(cause),
+                place: f.place,
+            })
+        }
+        Verdict::WellFormed => check_comparisons(q, t),
+    }
+}
+
+// Whether the engine accepts a query for a table: the table, the query's text, its comparisons.
+pub fn check<'a>(q: &'a [u8], t: &'a [u8]) -> Checked
+    ensures { λ r. ⌜ r ≡ Check.check (now (q .entry)) (now (t .entry)) ⌝ }
+{
+    match read_table(t) {
+        TableReading::Fault { cause, place } => Checked::Refused(Refusal {
+            cause: Cause::Table(cause),
+            place,
+        }),
+        TableReading::Good(_) => check_under(q, t),
+    }
+}

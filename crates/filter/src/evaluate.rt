@@ -1,0 +1,116 @@
+// evaluate (query, table, instance).
+use crate::check::check;
+use crate::refusal::Answer;
+use crate::refusal::Cause;
+use crate::refusal::Checked;
+use crate::refusal::Refusal;
+use instance::conform::Conformity;
+use instance::conform::check_instance;
+use judge::Judged;
+use judge::judge;
+use short_circuit::Told;
+use short_circuit::advance;
+use short_circuit::finish;
+use short_circuit::is_live;
+use short_circuit::start;
+use syntax::comparison::Comparison;
+use syntax::join::is_last;
+use syntax::query::NextResult;
+use syntax::query::open_query;
+use syntax::query::read_next;
+use token::Token;
+ghost use mathlib.Core.Path.{_≡_};
+ghost use mathlib.Core.Bool.{_&&_};
+ghost use Prim.Native.Nat.{_+_, _≤_};
+ghost use lib.ListN.{length};
+ghost use Rattle.syntax.specs.Scan.{scan};
+ghost use Rattle.syntax.specs.Query.{queryFrom, query};
+ghost use Rattle.short_circuit.specs.Walk.{told, initial, stepsIf, walkQuery};
+ghost use Rattle.filter.specs.Evaluate as Evaluate;
+ghost use Rattle.filter.specs.Answers.{truthIn, stepsIn};
+
+fn tell_nothing() -> Told
+    ensures { λ r. ⌜ r ≡ told mathlib.Core.Bool.false 0 ⌝ }
+{
+    Told {
+        holds: false,
+        steps: 0,
+    }
+}
+
+// A comparison, if it is judged.
+fn judge_if<'a>(live: bool, q: &'a [u8], t: &'a [u8], i: &'a [u8], c: Comparison) -> Told
+    ensures { λ r. ⌜ (r ≡ told (live && truthIn (now (q .entry)) (now (t .entry)) (now (i .entry)) c) (stepsIf live (stepsIn (now (q .entry)) (now (t .entry)) (now (i .entry)) c))) × (r .steps ≤ 1 + length (now (i .entry))) ⌝ }
+{
+    if !live {
+        return tell_nothing();
+    }
+    match judge(q, t, i, c) {
+        Judged::Fails(_, _) => tell_nothing(),
+        Judged::Tells(x) => x,
+    }
+}
+
+// The comparisons from a token on, judged from left to right.
+fn walk_from<'a>(q: &'a [u8], t: &'a [u8], i: &'a [u8], grouped: bool, first: Token) -> Told
+    requires { ⌜ length (now i) ≤ 65535 ⌝ }
+    ensures { λ r. ⌜ r ≡ walkQuery (truthIn (now (q .entry)) (now (t .entry)) (now (i .entry))) (stepsIn (now (q .entry)) (now (t .entry)) (now (i .entry))) initial 0 (queryFrom 64 (scan (now (q .entry))) grouped first) ⌝ }
+{
+    let mut token = first;
+    let mut left: usize = 64;
+    let mut chains = start();
+    let mut steps: usize = 0;
+    while 0 < left {
+        match read_next(q, grouped, token) {
+            NextResult::NoNext(_) => return tell_nothing(),
+            NextResult::HasNext(c, j, next) => {
+                let one = judge_if(is_live(chains), q, t, i, c);
+                if is_last(j) {
+                    return Told {
+                        holds: finish(chains, one.holds),
+                        steps: steps + one.steps,
+                    };
+                }
+                chains = advance(chains, j, one.holds);
+                steps += one.steps;
+                token = next;
+                left -= 1;
+            }
+        }
+    }
+    tell_nothing()
+}
+
+fn walk<'a>(q: &'a [u8], t: &'a [u8], i: &'a [u8]) -> Told
+    requires { ⌜ length (now i) ≤ 65535 ⌝ }
+    ensures { λ r. ⌜ r ≡ walkQuery (truthIn (now (q .entry)) (now (t .entry)) (now (i .entry))) (stepsIn (now (q .entry)) (now (t .entry)) (now (i .entry))) initial 0 (query (now (q .entry))) ⌝ }
+{
+    let o = open_query(q);
+    let token = o.token;
+    walk_from(q, t, i, o.grouped, token)
+}
+
+fn answer_of(x: Told) -> Answer
+    ensures { λ r. ⌜ r ≡ Evaluate.answer (x .holds) (x .steps) ⌝ }
+{
+    if x.holds {
+        return Answer::Included(x.steps);
+    }
+    Answer::Excluded(x.steps)
+}
+
+// Whether the query includes the instance, and in how many steps.
+pub fn evaluate<'a>(q: &'a [u8], t: &'a [u8], i: &'a [u8]) -> Answer
+    ensures { λ r. ⌜ r ≡ Evaluate.evaluate (now (q .entry)) (now (t .entry)) (now (i .entry)) ⌝ }
+{
+    match check(q, t) {
+        Checked::Refused(r) => Answer::Refused(r),
+        Checked::Accepted => match check_instance(t, i) {
+            Conformity::Fault { cause, place } => Answer::Refused(Refusal {
+                cause: Cause::Instance(cause),
+                place,
+            }),
+            Conformity::Conforming => answer_of(walk(q, t, i)),
+        },
+    }
+}

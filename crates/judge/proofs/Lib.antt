@@ -1,0 +1,4 @@
+pub mod Sides
+pub mod Named
+pub mod Meeting
+pub mod Judging

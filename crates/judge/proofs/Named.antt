@@ -1,0 +1,36 @@
+-- A path that names a property stands for it in the environment.
+use Prim.Native.Nat.{ℕ}
+use mathlib.Core.Path.{_≡_, refl, sym, ap, _∙_}
+use mathlib.Core.List.{List}
+use mathlib.Core.Bool.{Bool, true, false, _&&_}
+use native.Mathlib.Omega.{arith}
+use lib.Dec.{eqb}
+use Rattle.base.specs.Pick.{pick}
+use Rattle.record.specs.Name.{sameName}
+use Rattle.table.specs.Properties.{className, findProperty}
+use Rattle.table.specs.declared.lookup.Found.{Found}
+use Rattle.table.specs.declared.lookup.Found.the-variants as found
+use Rattle.syntax.specs.declared.path.Path as path
+use Rattle.instance.specs.Start.{startOf}
+use Rattle.instance.specs.Value.{Entry, property, environment, valueAt}
+use Rattle.instance.proofs.Environment.{entry-found}
+use Rattle.operand.specs.Named.{spanned, named}
+use Rattle.judge.specs.Environment.{entryFound, entryNamed}
+
+absent-apart : (n k : ℕ) → found.Absent ≡ found.Property n k → ⊥
+absent-apart n k e = let z : _≡_ {A = ℕ} 0 1 = cc in omega arith
+
+by-names : (t i : List ℕ) (a b : Bool) (m o : List ℕ) (n k : ℕ) → pick a (findProperty t m) (pick b (findProperty t o) found.Absent) ≡ found.Property n k
+    → environment t i n ≡ property k (valueAt k i (startOf i n))
+by-names t i true b m o n k e = entry-found t i m n k e
+by-names t i false true m o n k e = entry-found t i o n k e
+by-names t i false false m o n k e = absurd (absent-apart n k e)
+
+pub named-entry : (q t i : List ℕ) (p : path.Path) (n k : ℕ) → named q t p ≡ found.Property n k → environment t i n ≡ property k (valueAt k i (startOf i n))
+unfolding named
+named-entry q t i p n k e =
+    by-names t i (eqb (p .names) 1) (eqb (p .names) 2 && sameName (className t) (spanned q (p .first))) (spanned q (p .first)) (spanned q (p .second)) n k e
+
+pub entry-there : (q t i : List ℕ) (p : path.Path) (n k : ℕ) → named q t p ≡ found.Property n k → entryNamed q t i p ≡ property k (valueAt k i (startOf i n))
+unfolding entryNamed
+entry-there q t i p n k e = ap (entryFound (environment t i)) e ∙ named-entry q t i p n k e

@@ -1,0 +1,94 @@
+-- What the code's answers say.
+use Prim.Native.Nat.{ℕ}
+use mathlib.Core.List.{List}
+use mathlib.Core.Bool.{Bool, true, false}
+use mathlib.Core.Path.{_≡_}
+use mathlib.Core.Option.{Option, none, some}
+use Rattle.base.specs.Pick.{pick}
+use Rattle.record.specs.declared.kind.ValueType.{ValueType}
+use Rattle.token.specs.declared.Token.{Token}
+use Rattle.terminal.specs.declared.quantifier.Quantifier.{Quantifier}
+use Rattle.syntax.specs.declared.path.Index.{Index}
+use Rattle.instance.specs.Value.{ScalarValue}
+use Rattle.operand.specs.declared.cause.Cause.{Cause}
+use Rattle.operand.specs.declared.cause.Cause.the-variants as cause
+use Rattle.value.specs.Read.{valueInRecord}
+use Rattle.predicate.specs.declared.place.Spot.{Spot}
+use Rattle.predicate.specs.declared.place.Body.{Body}
+use Rattle.predicate.specs.Answers.{performed}
+use Rattle.predicate.specs.Place.{spotValue, locatedValue, bodyValue}
+use Rattle.judge.specs.declared.Judged.{Judged}
+use Rattle.judge.specs.declared.Judged.the-variants.{Fails, Tells}
+use Rattle.judge.specs.declared.left.SpotRead.{SpotRead}
+use Rattle.judge.specs.declared.left.SpotRead.the-variants as spot
+use Rattle.judge.specs.declared.left.Left as code-left
+use Rattle.judge.specs.declared.left.Left.the-variants as code
+use Rattle.judge.specs.declared.right.ItemRead.{ItemRead}
+use Rattle.judge.specs.declared.right.ItemRead.the-variants as item
+use Rattle.judge.specs.declared.right.ListRead.{ListRead}
+use Rattle.judge.specs.declared.right.ListRead.the-variants as list
+use Rattle.judge.specs.declared.meet.Settled.{Settled}
+use Rattle.judge.specs.declared.meet.Settled.the-variants as settling
+use Rattle.judge.specs.Meaning as meaning
+use Rattle.judge.specs.Meaning.{Read, unlike, faulty, value, Left, Meant, fails, means, elementOf, indexed, leftScalar, leftArray}
+
+-- a comparison's answer: its failure, or its truth and steps
+unfoldable pub judged : Meant → Judged
+judged (fails c p) = Fails c p
+judged (means x) = Tells (performed x)
+
+unfoldable pub spotRead : ValueType → (query instance : List ℕ) → SpotRead → Read (Option ScalarValue)
+spotRead t q i (spot.TooLarge p) = faulty cause.Range p
+spotRead t q i (spot.At s) = value (spotValue t q i s)
+
+unfoldable pub leftSeen : ValueType → (query instance : List ℕ) → code-left.Left → Left
+leftSeen t q i code.Misshapen = meaning.misshapen
+leftSeen t q i (code.One s) = meaning.Left.one (spotRead t q i s)
+leftSeen t q i (code.Many b) = meaning.Left.many (bodyValue t i b)
+leftSeen t q i (code.Each any b) = meaning.each any (bodyValue t i b)
+
+unfoldable pub itemRead : (query instance : List ℕ) → ItemRead → Read (Option ScalarValue)
+itemRead q i item.Unlike = unlike
+itemRead q i (item.Faulty c p) = faulty c p
+itemRead q i (item.Value y) = value (locatedValue q i y)
+
+-- the elements of an array literal, without their values
+unfoldable pub listRead : {A : Type 0} → Read A → ListRead
+listRead unlike = list.Unlike
+listRead (faulty c p) = list.Faulty c p
+listRead (value xs) = list.Good
+
+-- an element's answer before those of others
+abbrev pub listBefore : ListRead → ListRead → ListRead
+listBefore list.Unlike r = list.Unlike
+listBefore (list.Faulty c p) list.Unlike = list.Unlike
+listBefore (list.Faulty c p) (list.Faulty d o) = list.Faulty c p
+listBefore (list.Faulty c p) list.Good = list.Faulty c p
+listBefore list.Good r = r
+
+-- the code's answers of a left side, for values of any type
+abbrev pub ElementIn : (instance : List ℕ) → Body → (index : ℕ) → Spot → Type 0
+ElementIn i x n r = (t : ValueType) (q : List ℕ) → spotValue t q i r ≡ elementOf (bodyValue t i x) n
+
+abbrev pub IndexedIn : (query instance : List ℕ) → Token → Body → SpotRead → Type 0
+IndexedIn q i index x r = (t : ValueType) → spotRead t q i r ≡ indexed q index (bodyValue t i x)
+
+abbrev pub ScalarLeft : Quantifier → Index → (place : ℕ) → code-left.Left → Type 0
+ScalarLeft k index place r = (t : ValueType) (q i : List ℕ) → leftSeen t q i r ≡ leftScalar k index (valueInRecord t i place)
+
+abbrev pub ArrayLeft : (query instance : List ℕ) → Quantifier → Index → Body → code-left.Left → Type 0
+ArrayLeft q i k index x r = (t : ValueType) → leftSeen t q i r ≡ leftArray q k index (bodyValue t i x)
+
+abbrev pub ListOf : ItemRead → ListRead → Type 0
+ListOf y r = (q i : List ℕ) → r ≡ listRead (itemRead q i y)
+
+-- both sides' values, if nothing is wrong: as `both`
+abbrev pub settledOne : SpotRead → ItemRead → (start : ℕ) → Settled
+settledOne x item.Unlike s = settling.Fails cause.Row s
+settledOne (spot.TooLarge o) (item.Faulty c p) s = settling.Fails cause.Range o
+settledOne (spot.At x) (item.Faulty c p) s = settling.Fails c p
+settledOne (spot.TooLarge o) (item.Value y) s = settling.Fails cause.Range o
+settledOne (spot.At x) (item.Value y) s = settling.Ready x y
+
+unfoldable pub settled : (start : ℕ) (allowed : Bool) → SpotRead → ItemRead → Settled
+settled s allowed x y = pick allowed (settledOne x y s) (settling.Fails cause.Row s)

@@ -1,0 +1,49 @@
+-- One law for each exit of `src/place.rt`.
+use Prim.Native.Nat.{ℕ}
+use mathlib.Core.List.{List}
+use mathlib.Core.Bool.{Bool}
+use mathlib.Core.Path.{_≡_, refl, sym, ap, _∙_}
+use borrow.Author.Tests.{eq-eqb, ne-eqb}
+use Rattle.base.specs.Part.{part}
+use Rattle.base.specs.declared.order.Operator.{Operator}
+use Rattle.record.specs.Record.{recordAt}
+use Rattle.record.specs.declared.read.RecordAt.{RecordAt}
+use Rattle.record.specs.declared.read.RecordAt.the-variants.{Whole, Broken, End}
+use Rattle.record.specs.declared.kind.ValueType.{ValueType}
+use Rattle.value.specs.Compare.{compares}
+use Rattle.value.specs.Item.{itemValue}
+use Rattle.value.specs.Read.{valueInRecord}
+use Rattle.value.specs.declared.item.Item.{Item}
+use Rattle.predicate.specs.Place.{sourceBytes, spotValue, locatedValue, bodyAt}
+use Rattle.predicate.specs.declared.place.Source.{Source}
+use Rattle.predicate.specs.declared.place.Source.the-variants as source
+use Rattle.predicate.specs.declared.place.Spot.{Spot}
+use Rattle.predicate.specs.declared.place.Located.{Located}
+use Rattle.predicate.specs.declared.place.Body.the-variants as body
+
+pub bytes-part : (q i : List ℕ) (s : Source) (start len : ℕ) → s ≡ source.Part start len → (b : List ℕ) → b ≡ part i start len → b ≡ sourceBytes q i s
+bytes-part q i s start len h b e = e ∙ rw h
+
+module _ (q i : List ℕ) (of : ValueType) (x : Spot) (y : Located) (a b : List ℕ) (left : a ≡ sourceBytes q i (x .source)) (right : b ≡ sourceBytes q i (y .source)) where
+  pub spot-compared : (op : Operator) (z : Item) → itemValue a z ≡ valueInRecord of a (x .place) → (r : Bool) → r ≡ compares op (itemValue a z) (itemValue b (y .item))
+      → r ≡ compares op (spotValue of q i x) (locatedValue q i y)
+  spot-compared op z e r f = f ∙ rw (e, left, right)
+
+-- an array's body
+module _ (i : List ℕ) (place : ℕ) (r : RecordAt) (er : r ≡ recordAt i place) where
+  module _ (kind start len next : ℕ) (e : r ≡ Whole kind start len next) where
+    pub body-null : kind ≡ 0 → body.Null ≡ bodyAt i place
+    unfolding bodyAt
+    body-null h = rw (← er, e, eq-eqb kind 0 h)
+
+    pub body-stands : (kind ≡ 0 → ⊥) → body.At start len ≡ bodyAt i place
+    unfolding bodyAt
+    body-stands h = rw (← er, e, ne-eqb kind 0 h)
+
+  pub body-broken : r ≡ Broken → body.Null ≡ bodyAt i place
+  unfolding bodyAt
+  body-broken e = rw (← er, e)
+
+  pub body-missing : r ≡ End → body.Null ≡ bodyAt i place
+  unfolding bodyAt
+  body-missing e = rw (← er, e)

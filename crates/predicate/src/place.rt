@@ -1,0 +1,87 @@
+// Where values stand.
+use base::bytes::piece;
+use base::order::Operator;
+use record::kind::ValueType;
+use record::read::RecordAt;
+use record::read::record_at;
+use value::compare::compare_items;
+use value::item::Item;
+use value::read::item_at;
+ghost use mathlib.Core.Path.{_≡_};
+ghost use Rattle.value.specs.Compare.{compares};
+ghost use Rattle.predicate.specs.Place.{sourceBytes, spotValue, locatedValue, bodyAt};
+
+// The query, the instance, or the part of the instance that has the second number of bytes at the first.
+pub enum Source {
+    Query,
+    Instance,
+    Part(usize, usize),
+}
+
+// A record.
+pub struct Spot {
+    pub source: Source,
+    pub place: usize,
+}
+
+// A value, over the bytes that it came from.
+pub struct Located {
+    pub source: Source,
+    pub item: Item,
+}
+
+// An array of an instance: NULL, or the records in the second number of bytes at the first.
+pub enum Body {
+    Null,
+    At(usize, usize),
+}
+
+pub fn bytes_of<'a>(q: &'a [u8], i: &'a [u8], s: Source) -> &'a [u8]
+    ensures { λ r. ⌜ now r ≡ sourceBytes (now (q .entry)) (now (i .entry)) s ⌝ }
+{
+    match s {
+        Source::Query => q,
+        Source::Instance => i,
+        Source::Part(start, len) => piece(i, start, len),
+    }
+}
+
+// Whether the operator holds of the value in a record and another.
+pub fn compare_spot<'a>(
+    op: Operator,
+    q: &'a [u8],
+    i: &'a [u8],
+    of: ValueType,
+    x: Spot,
+    y: Located,
+) -> bool
+    ensures { λ r. ⌜ r ≡ compares op (spotValue of (now (q .entry)) (now (i .entry)) x) (locatedValue (now (q .entry)) (now (i .entry)) y) ⌝ }
+{
+    let left = x.source;
+    let right = y.source;
+    let item = y.item;
+    let a = bytes_of(q, i, left);
+    let b = bytes_of(q, i, right);
+    compare_items(op, a, item_at(a, x.place, of), b, item)
+}
+
+// The body of the array in the record at a place.
+pub fn body_at(i: &[u8], place: usize) -> Body
+    ensures { λ r. ⌜ r ≡ bodyAt (now (i .entry)) place ⌝ }
+{
+    match record_at(i, place) {
+        RecordAt::Whole {
+            kind,
+            start,
+            length,
+            next: _,
+        } => {
+            if kind == 0 {
+                return Body::Null;
+            }
+            Body::At(start, length)
+        }
+        RecordAt::Broken => Body::Null,
+        RecordAt::End => Body::Null,
+    }
+}

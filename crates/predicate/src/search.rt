@@ -1,0 +1,142 @@
+// ANY and EVERY.
+use crate::place::Body;
+use crate::place::Located;
+use crate::place::bytes_of;
+use base::bytes::piece;
+use base::order::Operator;
+use record::kind::ValueType;
+use record::read::RecordAt;
+use record::read::record_at;
+use short_circuit::Told;
+use value::compare::compare_items;
+use value::item::Item;
+use value::read::read_item;
+ghost use mathlib.Core.Path.{_≡_};
+ghost use mathlib.Core.Option.{some};
+ghost use mathlib.Core.Bool.{false};
+ghost use Rattle.base.specs.Part.{part};
+ghost use Rattle.instance.specs.Value.{elementIn};
+ghost use Rattle.value.specs.Compare.{compares};
+ghost use Rattle.value.specs.Item.{itemValue};
+ghost use Rattle.short_circuit.specs.Walk.{told};
+ghost use Rattle.predicate.specs.Test as test;
+ghost use Rattle.predicate.specs.Test.{reversedIf};
+ghost use Rattle.predicate.specs.Place.{elementsOf, bodyValue, locatedValue};
+ghost use Rattle.predicate.specs.Answers.{performed};
+
+pub fn reverse_if(negated: bool, b: bool) -> bool
+    ensures { λ r. ⌜ r ≡ reversedIf negated b ⌝ }
+{
+    if negated {
+        return !b;
+    }
+    b
+}
+
+// Whether an element decides ANY (`any`) or EVERY.
+fn decides(any: bool, holds: bool) -> bool
+    ensures { λ r. ⌜ r ≡ test.decides any holds ⌝ }
+{
+    reverse_if(!any, holds)
+}
+
+// Whether the operator holds of the value in a record of `a` and a value of `b`.
+fn holds_in<'a>(
+    op: Operator,
+    a: &'a [u8],
+    of: ValueType,
+    kind: usize,
+    start: usize,
+    length: usize,
+    b: &'a [u8],
+    y: Item,
+) -> bool
+    ensures { λ r. ⌜ r ≡ compares op (elementIn of kind (part (now (a .entry)) start length)) (itemValue (now (b .entry)) y) ⌝ }
+{
+    compare_items(op, a, read_item(a, of, kind, start, length), b, y)
+}
+
+// The records of an array: the search ends at the first element that decides it.
+fn search_records<'a>(
+    any: bool,
+    op: Operator,
+    a: &'a [u8],
+    of: ValueType,
+    b: &'a [u8],
+    y: Item,
+) -> Told
+    ensures { λ r. ⌜ r ≡ performed (test.search false any op (some (elementsOf of (now (a .entry)))) (itemValue (now (b .entry)) y)) ⌝ }
+{
+    let mut at: usize = 0;
+    let mut n: usize = 1;
+    loop {
+        match record_at(a, at) {
+            RecordAt::Whole {
+                kind,
+                start,
+                length,
+                next,
+            } => {
+                if decides(any, holds_in(op, a, of, kind, start, length, b, y)) {
+                    break Told {
+                        holds: any,
+                        steps: n + 1,
+                    };
+                }
+                at = next;
+                n += 1;
+            }
+            RecordAt::Broken => {
+                break Told {
+                    holds: !any,
+                    steps: n,
+                };
+            }
+            RecordAt::End => {
+                break Told {
+                    holds: !any,
+                    steps: n,
+                };
+            }
+        }
+    }
+}
+
+fn turn(negated: bool, t: Told) -> Told
+    ensures { λ r. ⌜ r ≡ told (reversedIf negated (t .holds)) (t .steps) ⌝ }
+{
+    Told {
+        holds: reverse_if(negated, t.holds),
+        steps: t.steps,
+    }
+}
+
+// ANY (`any`) or EVERY element of an array, beside a value.
+pub fn search<'a>(
+    negated: bool,
+    any: bool,
+    op: Operator,
+    q: &'a [u8],
+    i: &'a [u8],
+    of: ValueType,
+    x: Body,
+    y: Located,
+) -> Told
+    ensures { λ r. ⌜ r ≡ performed (test.search negated any op (bodyValue of (now (i .entry)) x) (locatedValue (now (q .entry)) (now (i .entry)) y)) ⌝ }
+{
+    match x {
+        Body::Null => Told {
+            holds: negated,
+            steps: 1,
+        },
+        Body::At(start, len) => {
+            let source = y.source;
+            let item = y.item;
+            let b = bytes_of(q, i, source);
+            turn(
+                negated,
+                search_records(any, op, piece(i, start, len), of, b, item),
+            )
+        }
+    }
+}

@@ -1,0 +1,13 @@
+use mathlib.Core.Path.{refl}
+use Rattle.syntax.specs.Tree.{total}
+use Rattle.short_circuit.proofs.finish.Statement.{statement}
+use Rattle.short_circuit.proofs.finish.Tie as tie
+use Rattle.short_circuit.proofs.finish.Reads as reads
+use Rattle.short_circuit.proofs.finish.Lts as lts
+
+returns : tie.Need-returns
+unfolding total
+returns c = refl
+
+pub finish-spec : {M : Type 1} → statement M
+finish-spec = tie.close (tie.spec returns)

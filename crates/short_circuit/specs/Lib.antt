@@ -1,0 +1,3 @@
+pub mod Count
+pub mod Walk
+pub mod Examples

@@ -1,0 +1,245 @@
+//! Tables and instances that are well-formed, or not (01, "Records"; numbers 2, 3, 30 and 31).
+
+use super::setting::{
+    array, char16, datetime, null, octets, real64, reference, sample, signed, text, truth, types, unsigned,
+};
+use super::Example;
+use super::Expected::{self, Excluded, Included, Refused};
+use crate::record::write;
+
+pub fn examples() -> Vec<Example> {
+    let mut out = whole_tables();
+    out.extend(further_properties());
+    out.extend(classes());
+    out.extend(many_properties());
+    out.extend(cut_instances());
+    out.extend(subclass_records());
+    out.extend(wrong_records());
+    out.extend(wrong_arrays());
+    out.extend(values_of_each_type());
+    out.extend(long_instances());
+    out
+}
+
+fn asked(query: &str, table: Vec<u8>, instance: Vec<u8>, expected: Expected) -> Example {
+    Example { query: query.as_bytes().to_vec(), table, instance, expected }
+}
+
+/// The sample's records start at 0, 5, 11, 19, 26, 34 and 43; it has 48 bytes.
+fn whole_tables() -> Vec<Example> {
+    let (table, instance) = (sample().table(), sample().instance());
+    let tried = |bytes: Vec<u8>, expected| asked("On = TRUE", bytes, instance.clone(), expected);
+    let longer = |tail: &[u8]| [&table[..], tail].concat();
+    vec![
+        tried(table.clone(), Included(1)),
+        tried(vec![], Refused(2, 0)),
+        tried(table[..47].to_vec(), Refused(2, 43)),
+        tried(table[..44].to_vec(), Refused(2, 43)),
+        tried(table[..4].to_vec(), Refused(2, 0)),
+        tried(table[5..].to_vec(), Refused(2, 0)),
+        tried(longer(&[0]), Refused(2, 48)),
+        tried(longer(&[0, 0, 0]), Refused(2, 48)),
+        tried(longer(&[2, 0, 1, 0, b'x']), Refused(2, 48)),
+        tried(longer(&table), Refused(2, 48)),
+        // A class without properties; the instance's records are then a subclass's.
+        tried(table[..5].to_vec(), Refused(20, 0)),
+    ]
+}
+
+/// A seventh property, at 48, and NULL for it.
+fn further_properties() -> Vec<Example> {
+    let tried = |kind: u16, name: &str, expected| {
+        let table = [sample().table(), write(kind, name.as_bytes())].concat();
+        asked("On = TRUE", table, [sample().instance(), null()].concat(), expected)
+    };
+    let mut out = Vec::new();
+    for kind in 1..=10 {
+        out.push(tried(kind, "x", Included(1)));
+        out.push(tried(kind | 0x0100, "x", Included(1)));
+    }
+    for kind in [0, 11, 0x0100, 0x010b, 0x0200, 0x0201, 0x0302, 0x1002, 0x0a01, 0xffff] {
+        out.push(tried(kind, "x", Refused(2, 48)));
+    }
+    for name in ["_", "And", "NULL", "any", "P", "p", "x".repeat(64).as_str(), "_9", "Z_"] {
+        out.push(tried(6, name, Included(1)));
+    }
+    for name in ["", "1x", "\u{e9}", "a-b", "a b", "a.b", "x\0", "x".repeat(65).as_str()] {
+        out.push(tried(6, name, Refused(2, 48)));
+    }
+    for name in ["Temp", "TEMP", "tEMp", "on", "r"] {
+        out.push(tried(6, name, Refused(3, 48)));
+    }
+    out.push(tried(11, "Temp", Refused(2, 48)));
+    out
+}
+
+fn classes() -> Vec<Example> {
+    let tried = |class: &str, expected| {
+        let table = [write(0x0200, class.as_bytes()), write(1, b"On")].concat();
+        asked("On = TRUE", table, truth(true), expected)
+    };
+    let mut out = Vec::new();
+    for class in ["P", "_", "x1", "Andy", "On", "x".repeat(64).as_str()] {
+        out.push(tried(class, Included(1)));
+    }
+    for class in ["", "1", "And", "ANY", "every", "False", "LIKE", "Not", "nuLL", "or", "true", "x".repeat(65).as_str()]
+    {
+        out.push(tried(class, Refused(2, 0)));
+    }
+    out.push(asked("On = TRUE", [write(0x0201, b"P"), write(1, b"On")].concat(), truth(true), Refused(2, 0)));
+    out
+}
+
+fn many_properties() -> Vec<Example> {
+    let table =
+        |n: usize| (0..n).fold(write(0x0200, b"C"), |out, i| [out, write(1, format!("p{i:03}").as_bytes())].concat());
+    let nulls = null().repeat(129);
+    let repeated = [table(128), write(1, b"p000")].concat();
+    let long = |last: usize| {
+        let name = |i: usize| format!("{i:_>60}");
+        let many = (0..127).fold(write(0x0200, b"C"), |out, i| [out, write(6, name(i).as_bytes())].concat());
+        [many, write(6, "z".repeat(last).as_bytes())].concat()
+    };
+    let last = "z".repeat(55);
+    vec![
+        asked("p000 = NULL AND p127 = NULL", table(128), nulls.clone(), Included(2)),
+        asked("p000 = NULL", table(129), nulls.clone(), Refused(2, 5 + 128 * 8)),
+        asked("p000 = NULL", repeated, nulls.clone(), Refused(2, 5 + 128 * 8)),
+        asked(&format!("{last} = NULL"), long(55), nulls.clone(), Included(1)),
+        asked(&format!("{last} = NULL"), long(56), nulls, Refused(2, 0)),
+    ]
+}
+
+/// The sample's records start at 0, 5, 17, 45, 54 and 83; it has 95 bytes.
+fn cut_instances() -> Vec<Example> {
+    let instance = sample().instance();
+    let cuts =
+        [(0, 0), (1, 0), (4, 0), (5, 5), (16, 5), (17, 17), (30, 17), (45, 45), (48, 45), (54, 54), (82, 54), (83, 83)];
+    let mut out: Vec<Example> = cuts
+        .iter()
+        .map(|&(cut, place)| asked("On = TRUE", sample().table(), instance[..cut].to_vec(), Refused(31, place)))
+        .collect();
+    out.push(asked("On = TRUE", sample().table(), instance[..94].to_vec(), Refused(31, 83)));
+    // A wrong value comes before a later record that is cut.
+    let wrong = sample().with("Temp", write(3, &[0; 7])).instance();
+    out.push(asked("On = TRUE", sample().table(), wrong[..89].to_vec(), Refused(31, 5)));
+    out
+}
+
+fn subclass_records() -> Vec<Example> {
+    let tried =
+        |tail: Vec<u8>, expected| asked("On = TRUE", sample().table(), [sample().instance(), tail].concat(), expected);
+    vec![
+        tried(write(0, b"body"), Included(1)),
+        tried(write(0x0200, &[]), Included(1)),
+        tried([write(0xffff, &[1]), write(9, b"no datetime")].concat(), Included(1)),
+        tried(vec![0], Refused(31, 95)),
+        tried(vec![0, 0, 0], Refused(31, 95)),
+        tried(vec![1, 0, 6, 0], Refused(31, 95)),
+        tried([write(7, &[0]), vec![9, 0, 0, 0, 0]].concat(), Refused(31, 100)),
+    ]
+}
+
+fn wrong_records() -> Vec<Example> {
+    let place = |name: &str| match name {
+        "On" => 0,
+        "Temp" => 5,
+        "Name" => 45,
+        "Since" => 54,
+        _ => 83,
+    };
+    let wrong = [
+        ("On", write(1, &[2])),
+        ("On", write(1, &[])),
+        ("On", write(1, &[1, 1])),
+        ("On", write(2, &[1])),
+        ("On", write(0, &[1])),
+        ("On", write(0x0101, &[])),
+        ("Temp", write(3, &[0; 7])),
+        ("Temp", write(3, &[0; 9])),
+        ("Temp", unsigned(5)),
+        ("Name", write(6, &[0xc0, 0x80])),
+        ("Name", write(6, &[0xed, 0xa0, 0x80])),
+        ("Name", write(6, &[0xf4, 0x90, 0x80, 0x80])),
+        ("Name", write(6, &[b'a', 0x80])),
+        ("Name", write(6, &[0xe2, 0x82])),
+        ("Name", reference("FAN_2")),
+        ("Since", datetime("20050229000000.000000+000")),
+        ("Since", datetime("20051003112233.000000+00")),
+        ("R", write(5, &[0; 4])),
+        ("R", write(4, &[0; 4])),
+    ];
+    wrong
+        .into_iter()
+        .flat_map(|(name, record)| sample().with(name, record).ask(&[("On = TRUE", Refused(31, place(name)))]))
+        .collect()
+}
+
+fn wrong_arrays() -> Vec<Example> {
+    let wrong = [
+        unsigned(3),
+        write(0x0103, &[]),
+        write(0x0202, &[]),
+        array(2, &[write(0x0102, &[])]),
+        array(2, &[signed(3)]),
+        array(2, &[write(2, &[0; 7])]),
+        array(2, &[write(0, &[0])]),
+        array(2, &[unsigned(3), vec![0]]),
+        array(2, &[unsigned(3), vec![1, 0, 2, 0]]),
+        array(2, &vec![null(); 257]),
+        array(2, &vec![unsigned(1); 257]),
+    ];
+    let mut out: Vec<Example> = wrong
+        .into_iter()
+        .flat_map(|record| sample().with("Dev", record).ask(&[("On = TRUE", Refused(31, 17))]))
+        .collect();
+    out.extend(sample().with("Dev", array(2, &vec![null(); 256])).ask(&[("EVERY Dev = NULL", Included(257))]));
+    out.extend(sample().with("Dev", array(2, &[])).ask(&[("Dev = {}", Included(1))]));
+    out.extend(sample().with("Dev", null()).ask(&[("Dev = {}", Excluded(1))]));
+    out
+}
+
+/// `C`, `O` and `K` of the class with all types start at 58, 64 and 99.
+fn values_of_each_type() -> Vec<Example> {
+    let mut out = Vec::new();
+    for unit in [0, 9, 0xd7ff, 0xe000, 0xfffe, 0xffff] {
+        out.extend(types().with("C", char16(unit)).ask(&[("C <> NULL", Included(1))]));
+    }
+    for unit in [0xd800, 0xdbff, 0xdc00, 0xdfff] {
+        out.extend(types().with("C", char16(unit)).ask(&[("C <> NULL", Refused(31, 58))]));
+    }
+    out.extend(types().with("C", write(7, &[0])).ask(&[("C <> NULL", Refused(31, 58))]));
+    for body in [&[][..], &[0xff], &[0; 5_000]] {
+        out.extend(types().with("O", octets(body)).ask(&[("O <> NULL", Included(1))]));
+    }
+    out.extend(types().with("K", write(10, &[0xff])).ask(&[("K <> NULL", Refused(31, 99))]));
+    for value in ["", "\0", "\u{ffff}", "\t", "\u{10ffff}"] {
+        out.extend(
+            types().with("S", text(value)).with("K", reference(value)).ask(&[("S <> NULL AND K <> NULL", Included(2))]),
+        );
+    }
+    for value in [f64::NAN, -f64::NAN, f64::from_bits(0x7ff0_0000_0000_0001), f64::INFINITY, -0.0, f64::from_bits(1)] {
+        out.extend(types().with("D", real64(value)).ask(&[("D <> NULL", Included(1))]));
+    }
+    for name in ["B", "U", "I", "F", "D", "S", "C", "O", "T", "K"] {
+        out.extend(types().with(name, null()).ask(&[(format!("{name} = NULL"), Included(1))]));
+        out.extend(types().with(&format!("{name}s"), null()).ask(&[(format!("{name}s[0] = NULL"), Included(1))]));
+    }
+    out
+}
+
+fn long_instances() -> Vec<Example> {
+    let of = |n: usize| [sample().instance(), write(0x4444, &vec![7; n - 99])].concat();
+    let tried = |bytes: Vec<u8>, expected| asked("On = TRUE", sample().table(), bytes, expected);
+    let long = sample().with("Name", text(&"x".repeat(60_000))).ask(&[("Name LIKE 'x*'", Included(60_001))]);
+    let mut out = vec![
+        tried(of(65_535), Included(1)),
+        tried(of(65_536), Refused(30, 0)),
+        // Four zeros are a NULL: six properties, subclass records, and three bytes left over.
+        tried(vec![0; 65_535], Refused(31, 65_532)),
+        tried(vec![0; 65_536], Refused(30, 0)),
+        tried([of(60_000), vec![1]].concat(), Refused(31, 60_000)),
+    ];
+    out.extend(long);
+    out
+}
