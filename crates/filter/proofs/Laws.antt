@@ -3,9 +3,9 @@ use Prim.Native.Nat.{ℕ, zero, suc, _+_, _-_, _*_, _≤_, _<_}
 use mathlib.Core.Path.{_≡_, refl, sym, ap, _∙_, subst}
 use mathlib.Core.List.{List}
 use mathlib.Core.Logic.{_↔_}
-use mathlib.Core.Bool.{Bool, true, false, _&&_}
+use mathlib.Core.Bool.{Bool, true, false, not, _&&_}
 use native.Mathlib.Omega.{arith}
-use borrow.Author.Tests.{ltb-true, ltb-false}
+use borrow.Author.Tests.{ltb-true, ltb-false, not-true, not-false}
 use lib.ListN.{length}
 use lib.Dec.{ltb}
 use Rattle.base.specs.Pick.{pick}
@@ -34,7 +34,7 @@ use Rattle.syntax.specs.Tree.{tree, holds}
 use Rattle.syntax.proofs.Laws.{from-out, from-bad, from-last, from-more}
 use Rattle.short_circuit.specs.declared.Told.{Told}
 use Rattle.short_circuit.specs.Count.{treeSteps}
-use Rattle.short_circuit.specs.Walk.{told, initial, walkQuery}
+use Rattle.short_circuit.specs.Walk.{told, initial, stepsIf, walkQuery}
 use Rattle.short_circuit.proofs.Loop.{walk-good}
 use Rattle.instance.specs.Fault.{conformity}
 use Rattle.instance.specs.declared.conform.InstanceFault.{InstanceFault}
@@ -62,6 +62,7 @@ use Rattle.filter.specs.declared.refusal.Answer.the-variants as answers
 use Rattle.filter.proofs.Agree.{Agrees, comparison-agrees}
 use Rattle.filter.proofs.QueryAgree.{Tied, truthCall, tied}
 use Rattle.filter.proofs.Demand3.{refused-same}
+use Rattle.filter.proofs.Size.{steps-few}
 
 -- ---- a comparison, judged in any instance
 fails-refused : (v : check.Verdict) (m : Meant) → Agrees v m → (k : comparison-cause.Cause) (p : ℕ) → Fails k p ≡ judged m
@@ -174,6 +175,9 @@ module _ (q t : List ℕ) where
       go false (Utf8.IllFormed p) h = absurd (no-verdict (fault Encoding p) h)
       go false Utf8.WellFormed h = h
 
+  pub taken-query : {v : Verdict} → v ≡ textVerdict q → v ≡ text-verdict.WellFormed → verdict (query q) ≡ text-verdict.WellFormed
+  taken-query ev e = well-formed (sym ev ∙ e)
+
   pub text-refused : {v : Verdict} → v ≡ textVerdict q → (f : Fault) → v ≡ text-verdict.Refused f
       → Refused (record { cause = cause.Text (f .cause); place = f .place }) ≡ checkCall q t (callText q (textVerdict q))
   text-refused ev f e = sym (ap (λ (x : Verdict). checkCall q t (callText q x)) (sym ev ∙ e))
@@ -262,3 +266,48 @@ module _ (q t i : List ℕ) {v : Checked} (ev : v ≡ check.check q t) (accepted
   evaluate-answers e ex ea =
       ea ∙ ap (λ (y : Told). answer (y .holds) (y .steps)) (ex ∙ walked (callOf q t) refl)
       ∙ sym (evaluates ∙ ap (λ (x : Conformity). answerIf x (truthCall q t i (callOf q t)) (steps q t i)) e)
+
+-- ---- a comparison, if it is judged
+module _ (q t i : List ℕ) (c : Comparison) (live : Bool) where
+  abbrev JudgedIf : Told → Type 0
+  JudgedIf x = x ≡ told (live && truthIn q t i c) (stepsIf live (stepsIn q t i c))
+
+  pub skipped : not live ≡ true → JudgedIf (told false 0)
+  skipped h = by (meantIn q t i c) live (not-true _ h)
+    where
+      by : (m : Meant) (b : Bool) → b ≡ false → told false 0 ≡ told (b && truthOf m) (stepsIf b (stepsOf m))
+      by m b e = rw e refl
+
+  module _ (h : not live ≡ false) {r : Judged} (er : r ≡ judged (meaning q (entryNamed q t i) c)) where
+    live-told : (m : Meant) → told (truthOf m) (stepsOf m) ≡ told (live && truthOf m) (stepsIf live (stepsOf m))
+    live-told m = by live (not-false _ h)
+      where
+        by : (b : Bool) → b ≡ true → told (truthOf m) (stepsOf m) ≡ told (b && truthOf m) (stepsIf b (stepsOf m))
+        by b e = rw e refl
+
+    failed-told : (m : Meant) (k : comparison-cause.Cause) (p : ℕ) → Fails k p ≡ judged m → told false 0 ≡ told (truthOf m) (stepsOf m)
+    unfolding judged truthOf stepsOf
+    failed-told (fails c o) k p e = refl
+    failed-told (means x) k p e = let z : _≡_ {A = ℕ} 0 1 = cc in absurd (omega arith)
+
+    tells-told : (m : Meant) (x : Told) → Tells x ≡ judged m → x ≡ told (truthOf m) (stepsOf m)
+    unfolding judged truthOf stepsOf
+    tells-told (fails c o) x e = let z : _≡_ {A = ℕ} 0 1 = cc in absurd (omega arith)
+    tells-told (means y) x e = cc
+
+    pub judged-nothing : (k : comparison-cause.Cause) (p : ℕ) → r ≡ Fails k p → JudgedIf (told false 0)
+    judged-nothing k p e = failed-told (meantIn q t i c) k p (sym e ∙ er) ∙ live-told (meantIn q t i c)
+
+    pub judged-told : (x : Told) → r ≡ Tells x → JudgedIf x
+    judged-told x e = tells-told (meantIn q t i c) x (sym e ∙ er) ∙ live-told (meantIn q t i c)
+
+    pub judged-few : (x : Told) → r ≡ Tells x → x .steps ≤ 1 + length i
+    judged-few x e = omega (arith, steps-few q t i c, ap (λ (y : Told). y .steps) (tells-told (meantIn q t i c) x (sym e ∙ er)))
+
+-- ---- an answer by its truth value
+module _ (x : Told) where
+  pub answer-true : x .holds ≡ true → answers.Included (x .steps) ≡ answer (x .holds) (x .steps)
+  answer-true e = sym (ap (λ (b : Bool). answer b (x .steps)) e)
+
+  pub answer-false : x .holds ≡ false → answers.Excluded (x .steps) ≡ answer (x .holds) (x .steps)
+  answer-false e = sym (ap (λ (b : Bool). answer b (x .steps)) e)

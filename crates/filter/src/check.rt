@@ -18,6 +18,8 @@ use token::Token;
 ghost use mathlib.Core.Path.{_≡_};
 ghost use Rattle.syntax.specs.Scan.{scan};
 ghost use Rattle.syntax.specs.Query.{queryFrom, query, verdict};
+ghost use Rattle.syntax.specs.Text.{textVerdict};
+ghost use Rattle.filter.specs.Refusal.{callText};
 ghost use Rattle.filter.specs.Check as Check;
 ghost use Rattle.filter.specs.Check.{checkComparison, asChecked};
 ghost use Rattle.filter.specs.Answers.{checkQuery};
@@ -70,7 +72,7 @@ fn check_comparisons<'a>(q: &'a [u8], t: &'a [u8]) -> Checked
 }
 
 fn check_under<'a>(q: &'a [u8], t: &'a [u8]) -> Checked
-    ensures { λ r. ⌜ r ≡ Check.checkCall (now (q .entry)) (now (t .entry)) (Rattle.filter.specs.Refusal.callText (now (q .entry)) (Rattle.syntax.specs.Text.textVerdict (now (q .entry)))) ⌝ }
+    ensures { λ r. ⌜ r ≡ Check.checkCall (now (q .entry)) (now (t .entry)) (callText (now (q .entry)) (textVerdict (now (q .entry)))) ⌝ }
 {
     match check_text(q) {
         Verdict::Refused(f) => {
@@ -93,6 +95,6 @@ pub fn check<'a>(q: &'a [u8], t: &'a [u8]) -> Checked
             cause: Cause::Table(cause),
             place,
         }),
-        TableReading::Good(_) => check_under(q, t),
+        TableReading::Good { count: _ } => check_under(q, t),
     }
 }

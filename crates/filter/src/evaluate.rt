@@ -29,24 +29,21 @@ ghost use Rattle.short_circuit.specs.Walk.{told, initial, stepsIf, walkQuery};
 ghost use Rattle.filter.specs.Evaluate as Evaluate;
 ghost use Rattle.filter.specs.Answers.{truthIn, stepsIn};
 
-fn tell_nothing() -> Told
-    ensures { λ r. ⌜ r ≡ told mathlib.Core.Bool.false 0 ⌝ }
-{
-    Told {
-        holds: false,
-        steps: 0,
-    }
-}
-
 // A comparison, if it is judged.
 fn judge_if<'a>(live: bool, q: &'a [u8], t: &'a [u8], i: &'a [u8], c: Comparison) -> Told
     ensures { λ r. ⌜ (r ≡ told (live && truthIn (now (q .entry)) (now (t .entry)) (now (i .entry)) c) (stepsIf live (stepsIn (now (q .entry)) (now (t .entry)) (now (i .entry)) c))) × (r .steps ≤ 1 + length (now (i .entry))) ⌝ }
 {
     if !live {
-        return tell_nothing();
+        return Told {
+            holds: false,
+            steps: 0,
+        };
     }
     match judge(q, t, i, c) {
-        Judged::Fails(_, _) => tell_nothing(),
+        Judged::Fails(_, _) => Told {
+            holds: false,
+            steps: 0,
+        },
         Judged::Tells(x) => x,
     }
 }
@@ -62,7 +59,12 @@ fn walk_from<'a>(q: &'a [u8], t: &'a [u8], i: &'a [u8], grouped: bool, first: To
     let mut steps: usize = 0;
     while 0 < left {
         match read_next(q, grouped, token) {
-            NextResult::NoNext(_) => return tell_nothing(),
+            NextResult::NoNext(_) => {
+                return Told {
+                    holds: false,
+                    steps: 0,
+                };
+            }
             NextResult::HasNext(c, j, next) => {
                 let one = judge_if(is_live(chains), q, t, i, c);
                 if is_last(j) {
@@ -78,7 +80,10 @@ fn walk_from<'a>(q: &'a [u8], t: &'a [u8], i: &'a [u8], grouped: bool, first: To
             }
         }
     }
-    tell_nothing()
+    Told {
+        holds: false,
+        steps: 0,
+    }
 }
 
 fn walk<'a>(q: &'a [u8], t: &'a [u8], i: &'a [u8]) -> Told

@@ -103,7 +103,9 @@ module _ (q t i : List ℕ) (c : Comparison) {r : Found} (er : r ≡ named q t (
   unfolding meaning.meaning meantAs judged entryNamed
   left-absent e = rw (← er, e) refl
 
-  pub left-found : (number kind : ℕ) → r ≡ found.Property number kind → {j : Judged} → j ≡ judged (meantBy q (entryNamed q t i) c (kindOf kind) (valueAt kind i (startOf i number)))
-      → j ≡ judged (meaning.meaning q (entryNamed q t i) c)
+  pub left-found : (number kind : ℕ) → r ≡ found.Property number kind → {place : ℕ} → place ≡ startOf i number
+      → {j : Judged} → j ≡ judged (meantBy q (entryNamed q t i) c (kindOf kind) (valueAt kind i place)) → j ≡ judged (meaning.meaning q (entryNamed q t i) c)
   unfolding meaning.meaning meantAs
-  left-found number kind e h = h ∙ sym (ap (λ (x : Entry). judged (meantAs q (entryNamed q t i) c x)) (entry-there q t i (c .left .path) number kind (sym er ∙ e)))
+  left-found number kind e ep h =
+      h ∙ ap (λ (x : ℕ). judged (meantBy q (entryNamed q t i) c (kindOf kind) (valueAt kind i x))) ep
+      ∙ sym (ap (λ (x : Entry). judged (meantAs q (entryNamed q t i) c x)) (entry-there q t i (c .left .path) number kind (sym er ∙ e)))

@@ -2,7 +2,7 @@
 use Prim.Native.Nat.{ℕ, zero, suc, _+_, _-_, _≤_, _<_}
 use mathlib.Core.Path.{_≡_, refl, sym, ap, _∙_}
 use mathlib.Core.List.{List, [], _∷_}
-use mathlib.Core.Bool.{Bool, true, false, not, _&&_}
+use mathlib.Core.Bool.{Bool, true, false, not, _&&_, _||_}
 use mathlib.Core.Option.{Option, none, some}
 use native.Mathlib.Omega.{arith}
 use lib.ListN.{length, getD}
@@ -78,7 +78,7 @@ use Rattle.judge.specs.declared.Judged.{Judged}
 use Rattle.judge.specs.declared.Judged.the-variants.{Fails, Tells}
 use Rattle.judge.specs.declared.meet.Settled.{Settled}
 use Rattle.judge.specs.declared.meet.Settled.the-variants as settling
-use Rattle.judge.specs.Meaning.{Right, Meant, fails, means, both, meet, operatorOf, isNegated, suits, notNull, patternBy, likeText}
+use Rattle.judge.specs.Meaning.{Right, Meant, fails, means, both, meet, operatorOf, isNegated, ordered, suits, notNull, patternBy, likeText}
 use Rattle.judge.specs.Answers.{judged, settledOne, settled}
 use Rattle.table.specs.declared.lookup.Found.{Found}
 use Rattle.table.specs.declared.lookup.Found.the-variants as found
@@ -90,6 +90,13 @@ use Rattle.judge.proofs.Sides.{elements-good}
 use Rattle.judge.proofs.Named.{entry-there}
 
 -- ---- src/meet.rt
+pub ordered-by : (f : Family) {a b c : Bool} → a ≡ sameRow f family.Integer → b ≡ sameRow f family.Real → c ≡ sameRow f family.Datetime → a || (b || c) ≡ ordered f
+unfolding ordered
+ordered-by f ea eb ec = rw (ea, eb, ec) refl
+
+pub suits-by : (op : Operator) (f : Family) (n : Bool) {a b : Bool} → a ≡ equality op → b ≡ ordered f → a || (not n && b) ≡ suits op f n
+suits-by op f n ea eb = rw (ea, eb) refl
+
 module _ (start : ℕ) (allowed : Bool) (x : SpotRead) (y : ItemRead) where
   pub settle-row : not allowed ≡ true → settling.Fails cause.Row start ≡ settled start allowed x y
   unfolding settled
@@ -365,48 +372,58 @@ module _ (a : LeftSide) (o : Operation) (f : Family) (l : meaning.Left) where
   abbrev Beside : Right → Judged → Type 0
   Beside r j = j ≡ judged (meet a o f l r)
 
-  -- a scalar, with or without an index
-  module _ (same : Bool) (index : Index) (x : Option ScalarValue) where
-    pub right-one : index ≡ Whole → {y : Read (Option ScalarValue)} → y ≡ ofRow same (meaning.value x) → {j : Judged} → Beside (meaning.Right.one false y) j
-        → Beside (rightScalar same index x) j
-    unfolding rightScalar
-    right-one e ey h = h ∙ rw (e, ey) refl
+  -- a scalar in a record, with or without an index
+  module _ (q i : List ℕ) (with : ValueType) (index : Index) (place : ℕ) where
+    pub right-one : index ≡ Whole → {s : Bool} → s ≡ sameRow f (with .family) → (y : ItemRead)
+        → itemRead q i y ≡ ofRow s (spotRead with q i (spot.At (record { source = source.Instance; place = place })))
+        → {j : Judged} → Beside (meaning.Right.one false (itemRead q i y)) j → Beside (rightScalar (sameRow f (with .family)) index (valueInRecord with i place)) j
+    unfolding rightScalar spotRead
+    right-one e es y ey h = h ∙ ap (λ (r : Read (Option ScalarValue)). judged (meet a o f l (meaning.Right.one false r))) ey ∙ rw (e, es) refl
 
-    pub right-indexed : (t : Token) → index ≡ At t → Beside (rightScalar same index x) (Fails cause.Shape (a .start))
+    pub right-indexed : (t : Token) → index ≡ At t
+        → Beside (rightScalar (sameRow f (with .family)) index (valueInRecord with i place)) (Fails cause.Shape (a .start))
     unfolding rightScalar judged meet
     right-indexed t e = rw e refl
 
-  module _ (q : List ℕ) (same : Bool) (index : Index) (xs : test.Array) where
-    pub right-whole : index ≡ Whole → {j : Judged} → Beside (meaning.Right.many (ofRow same (meaning.value xs))) j → Beside (rightArray q same index xs) j
-    unfolding rightArray
-    right-whole e h = h ∙ rw e refl
+    module _ {b : Body} (eb : b ≡ bodyAt i place) {s : Bool} (es : s ≡ sameRow f (with .family)) where
+      pub right-whole : index ≡ Whole → {j : Judged} → Beside (meaning.Right.many (ofRow s (meaning.value (bodyValue with i b)))) j
+          → Beside (rightArray q (sameRow f (with .family)) index (bodyValue with i (bodyAt i place))) j
+      unfolding rightArray
+      right-whole e h = h ∙ rw (e, es, eb) refl
 
-    pub right-element : (t : Token) → index ≡ At t → {y : Read (Option ScalarValue)} → y ≡ ofRow same (indexed q t xs) → {j : Judged} → Beside (meaning.Right.one false y) j
-        → Beside (rightArray q same index xs) j
-    unfolding rightArray
-    right-element t e ey h = h ∙ rw (e, ey) refl
+      pub right-element : (t : Token) → index ≡ At t → (x : SpotRead) → IndexedIn q i t b x → (y : ItemRead) → itemRead q i y ≡ ofRow s (spotRead with q i x)
+          → {j : Judged} → Beside (meaning.Right.one false (itemRead q i y)) j
+          → Beside (rightArray q (sameRow f (with .family)) index (bodyValue with i (bodyAt i place))) j
+      unfolding rightArray
+      right-element t e x ex y ey h =
+          h ∙ ap (λ (r : Read (Option ScalarValue)). judged (meet a o f l (meaning.Right.one false r))) (ey ∙ ap (ofRow s) (ex with))
+          ∙ rw (e, es, eb) refl
 
-  module _ (q : List ℕ) (name : ℕ) (index : Index) (v : value.Value) {k : Kind} (kind : ℕ) (ek : k ≡ kindOf kind) where
-    pub kind-unknown : k ≡ Unknown → Beside (rightKind f q name index (kindOf kind) v) (Fails cause.Name name)
+  module _ (q i : List ℕ) (name : ℕ) (index : Index) (kind place : ℕ) {k : Kind} (ek : k ≡ kindOf kind) where
+    pub kind-unknown : k ≡ Unknown → Beside (rightKind f q name index (kindOf kind) (valueAt kind i place)) (Fails cause.Name name)
     unfolding rightKind judged meet
     kind-unknown e = rw (← ek, e) refl
 
-    pub kind-scalar : (t : ValueType) → k ≡ Scalar t → {x : Option ScalarValue} → asScalar v ≡ x → {j : Judged} → Beside (rightScalar (sameRow f (t .family)) index x) j
-        → Beside (rightKind f q name index (kindOf kind) v) j
+    pub kind-scalar : (t : ValueType) → k ≡ Scalar t → {j : Judged} → Beside (rightScalar (sameRow f (t .family)) index (valueInRecord t i place)) j
+        → Beside (rightKind f q name index (kindOf kind) (valueAt kind i place)) j
     unfolding rightKind
-    kind-scalar t e ex h = h ∙ rw (← ek, e, ← ex) refl
+    kind-scalar t e h =
+        h ∙ ap (λ (x : Option ScalarValue). judged (meet a o f l (rightScalar (sameRow f (t .family)) index x))) (sym (scalar-of kind i place t (sym ek ∙ e)))
+        ∙ sym (ap (λ (x : Kind). judged (meet a o f l (rightKind f q name index x (valueAt kind i place)))) (sym ek ∙ e))
 
-    pub kind-array : (element : ℕ) (t : ValueType) → k ≡ Array element t → {xs : test.Array} → asArray v ≡ xs → {j : Judged} → Beside (rightArray q (sameRow f (t .family)) index xs) j
-        → Beside (rightKind f q name index (kindOf kind) v) j
+    pub kind-array : (element : ℕ) (t : ValueType) → k ≡ Array element t → {j : Judged}
+        → Beside (rightArray q (sameRow f (t .family)) index (bodyValue t i (bodyAt i place))) j → Beside (rightKind f q name index (kindOf kind) (valueAt kind i place)) j
     unfolding rightKind
-    kind-array element t e ex h = h ∙ rw (← ek, e, ← ex) refl
+    kind-array element t e h =
+        h ∙ ap (λ (x : test.Array). judged (meet a o f l (rightArray q (sameRow f (t .family)) index x))) (sym (array-of kind i place element t (sym ek ∙ e)))
+        ∙ sym (ap (λ (x : Kind). judged (meet a o f l (rightKind f q name index x (valueAt kind i place)))) (sym ek ∙ e))
 
   module _ (q t i : List ℕ) (p : path.Path) (index : Index) {r : Found} (er : r ≡ named q t p) where
     pub property-absent : r ≡ found.Absent → Beside (rightProperty f q (p .first .start) index (entryNamed q t i p)) (Fails cause.Name (p .first .start))
     unfolding rightProperty judged meet entryNamed
     property-absent e = rw (← er, e) refl
 
-    pub property-found : (number kind : ℕ) → r ≡ found.Property number kind → {j : Judged}
-        → Beside (rightKind f q (p .first .start) index (kindOf kind) (valueAt kind i (startOf i number))) j → Beside (rightProperty f q (p .first .start) index (entryNamed q t i p)) j
+    pub property-found : (number kind : ℕ) → r ≡ found.Property number kind → {place : ℕ} → place ≡ startOf i number → {j : Judged}
+        → Beside (rightKind f q (p .first .start) index (kindOf kind) (valueAt kind i place)) j → Beside (rightProperty f q (p .first .start) index (entryNamed q t i p)) j
     unfolding rightProperty
-    property-found number kind e h = h ∙ rw (entry-there q t i p number kind (sym er ∙ e)) refl
+    property-found number kind e ep h = h ∙ rw (entry-there q t i p number kind (sym er ∙ e), ep) refl

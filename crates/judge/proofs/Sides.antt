@@ -26,6 +26,7 @@ use Rattle.syntax.specs.declared.path.Index.the-variants.{Whole, At}
 use Rattle.instance.specs.Start.{nextOf, nextAt, startOf}
 use Rattle.instance.specs.Value as value
 use Rattle.instance.specs.Value.{ScalarValue, elementIn, valueAt}
+use Rattle.value.specs.Item.{itemValue}
 use Rattle.value.specs.Read.{valueIn, valueInRecord, asValue}
 use Rattle.value.proofs.Reading.{scalar-property}
 use Rattle.operand.specs.declared.cause.Cause.{Cause}
@@ -37,7 +38,7 @@ use Rattle.operand.specs.declared.literal_read.LiteralRead.the-variants as lite
 use Rattle.operand.specs.Index.{indexOf}
 use Rattle.operand.specs.LiteralReading.{LiteralReading, misfit, outOfRange, malformed, reads, readLiteral}
 use Rattle.operand.specs.Answers.{readingOf}
-use Rattle.operand.specs.Element.{nextElement, elementsFrom}
+use Rattle.operand.specs.Element.{nextElement, elementsFrom, firstElement, elementTokens}
 use Rattle.predicate.specs.declared.place.Source.the-variants as source
 use Rattle.predicate.specs.declared.place.Spot.{Spot}
 use Rattle.predicate.specs.declared.place.Located.{Located}
@@ -93,10 +94,10 @@ module _ (i : List ℕ) (x : Body) (n : ℕ) where
   unfolding bodyValue elementOf valueInRecord recordAt
   element-null e t q = rw e refl
 
-  pub element-there : (start len place : ℕ) → x ≡ body.At start len → place ≡ startOf (part i start len) n
+  pub element-there : (start len : ℕ) {s : List ℕ} {place : ℕ} → x ≡ body.At start len → s ≡ part i start len → place ≡ startOf s n
       → ElementIn i x n (record { source = source.Part start len; place = place })
   unfolding bodyValue elementOf
-  element-there start len place e h t q = rw (e, h) (element-start t (part i start len) n)
+  element-there start len e es h t q = rw (e, h, es) (element-start t (part i start len) n)
 
 module _ (q i : List ℕ) (x : Body) (k : Token) {r : IndexRead} (er : r ≡ indexOf q k) where
   pub indexed-reads : (n : ℕ) → r ≡ Reads n → (s : Spot) → ElementIn i x n s → IndexedIn q i k x (spot.At s)
@@ -199,6 +200,18 @@ module _ (y : ItemRead) where
   unfolding listRead itemRead
   list-good x e q i = rw e refl
 
+-- the value in a record, over the bytes that it stands in
+pub record-located : (q i : List ℕ) (of : ValueType) (s : Spot) {a : List ℕ} (x : Rattle.value.specs.declared.item.Item.Item) → a ≡ sourceBytes q i (s .source)
+    → itemValue a x ≡ valueInRecord of a (s .place) → locatedValue q i (record { source = s .source; item = x }) ≡ spotValue of q i s
+record-located q i of s x ea h = rw (← ea) h
+
+module _ (a b : ListRead) (c : Cause) (p : ℕ) (e : a ≡ list.Faulty c p) where
+  pub before-fault : (d : Cause) (o : ℕ) → b ≡ list.Faulty d o → list.Faulty c p ≡ listBefore a b
+  before-fault d o f = rw (e, f) refl
+
+  pub before-good : b ≡ list.Good → list.Faulty c p ≡ listBefore a b
+  before-good f = rw (e, f) refl
+
 -- the elements of an array literal, one after the other
 list-before : (x : Read (Option ScalarValue)) (r : Read (List (Option ScalarValue))) → listRead (before x r) ≡ listBefore (listRead x) (listRead r)
 unfolding listRead
@@ -223,6 +236,10 @@ list-last : (a : ListRead) → a ≡ listBefore a list.Good
 list-last list.Unlike = refl
 list-last list.Good = refl
 list-last (list.Faulty c p) = refl
+
+pub elements-begin : (f : Family) (q : List ℕ) (start count : ℕ) {t : Token} → t ≡ firstElement q start
+    → listRead (elements f q (elementTokens q start count)) ≡ listBefore list.Good (listRead (elements f q (elementsFrom q t count)))
+elements-begin f q start count e = rw e refl
 
 module _ (f : Family) (q : List ℕ) (t : Token) (left : ℕ) (seen : ListRead) {whole : ListRead} (i : whole ≡ listBefore seen (listRead (elements f q (elementsFrom q t left)))) where
   pub elements-end : left ≤ 0 → seen ≡ whole

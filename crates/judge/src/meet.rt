@@ -26,6 +26,8 @@ use syntax::operation::Operation;
 use terminal::operator::is_equality;
 use token::Token;
 ghost use mathlib.Core.Path.{_≡_};
+ghost use Rattle.record.specs.Kind.{sameRow};
+ghost use Rattle.terminal.specs.Terminal.{equality};
 ghost use mathlib.Core.Option.{some};
 ghost use Rattle.operand.specs.Element.{elementTokens};
 ghost use Rattle.operand.specs.PatternLiteral.{patternOf};
@@ -181,7 +183,7 @@ fn judge_elements<'a>(
     from: usize,
     count: usize,
 ) -> Judged
-    ensures { λ r. ⌜ r ≡ judged (both start (Rattle.terminal.specs.Terminal.equality op) (meaning.value (bodyValue of (now (i .entry)) x)) (notNull (elements (of .family) (now (q .entry)) (elementTokens (now (q .entry)) from count))) (test.arrays op)) ⌝ }
+    ensures { λ r. ⌜ r ≡ judged (both start (equality op) (meaning.value (bodyValue of (now (i .entry)) x)) (notNull (elements (of .family) (now (q .entry)) (elementTokens (now (q .entry)) from count))) (test.arrays op)) ⌝ }
 {
     if !is_equality(op) {
         return Judged::Fails(Cause::Row, start);
@@ -226,7 +228,7 @@ fn judge_bodies(
     with: ValueType,
     y: Body,
 ) -> Judged
-    ensures { λ r. ⌜ r ≡ judged (both start (Rattle.terminal.specs.Terminal.equality op) (meaning.value (bodyValue of (now (i .entry)) x)) (ofRow same (meaning.value (bodyValue with (now (i .entry)) y))) (test.arrays op)) ⌝ }
+    ensures { λ r. ⌜ r ≡ judged (both start (equality op) (meaning.value (bodyValue of (now (i .entry)) x)) (ofRow same (meaning.value (bodyValue with (now (i .entry)) y))) (test.arrays op)) ⌝ }
 {
     if is_equality(op) & same {
         return Judged::Tells(compare_bodies(op, i, of, x, with, y));
@@ -266,7 +268,7 @@ fn judge_like<'a>(
     x: SpotRead,
     t: Token,
 ) -> Judged
-    ensures { λ r. ⌜ r ≡ judged (both start (Rattle.record.specs.Kind.sameRow (of .family) Family.Text) (spotRead of (now (q .entry)) (now (i .entry)) x) (patternBy (t .start) (patternOf (now (q .entry)) t)) (likeText negated)) ⌝ }
+    ensures { λ r. ⌜ r ≡ judged (both start (sameRow (of .family) Family.Text) (spotRead of (now (q .entry)) (now (i .entry)) x) (patternBy (t .start) (patternOf (now (q .entry)) t)) (likeText negated)) ⌝ }
 {
     let family = of.family;
     if !same_row(family, Family::Text) {

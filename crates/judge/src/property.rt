@@ -22,7 +22,7 @@ use syntax::path::Index;
 use syntax::path::Path;
 use table::lookup::Found;
 ghost use mathlib.Core.Path.{_≡_};
-ghost use Rattle.record.specs.Kind.{kindOf};
+ghost use Rattle.record.specs.Kind.{kindOf, sameRow};
 ghost use Rattle.instance.specs.Value.{valueAt};
 ghost use Rattle.value.specs.Read.{valueInRecord};
 ghost use Rattle.predicate.specs.Place.{bodyAt, bodyValue};
@@ -43,7 +43,7 @@ fn meet_scalar<'a>(
     with: ValueType,
     place: usize,
 ) -> Judged
-    ensures { λ r. ⌜ r ≡ judged (meaning.meet a o (of .family) (leftSeen of (now (q .entry)) (now (i .entry)) l) (rightScalar (Rattle.record.specs.Kind.sameRow (of .family) (with .family)) index (valueInRecord with (now (i .entry)) place))) ⌝ }
+    ensures { λ r. ⌜ r ≡ judged (meaning.meet a o (of .family) (leftSeen of (now (q .entry)) (now (i .entry)) l) (rightScalar (sameRow (of .family) (with .family)) index (valueInRecord with (now (i .entry)) place))) ⌝ }
 {
     let family = of.family;
     let other = with.family;
@@ -72,7 +72,7 @@ fn meet_array<'a>(
     with: ValueType,
     place: usize,
 ) -> Judged
-    ensures { λ r. ⌜ r ≡ judged (meaning.meet a o (of .family) (leftSeen of (now (q .entry)) (now (i .entry)) l) (rightArray (now (q .entry)) (Rattle.record.specs.Kind.sameRow (of .family) (with .family)) index (bodyValue with (now (i .entry)) (bodyAt (now (i .entry)) place)))) ⌝ }
+    ensures { λ r. ⌜ r ≡ judged (meaning.meet a o (of .family) (leftSeen of (now (q .entry)) (now (i .entry)) l) (rightArray (now (q .entry)) (sameRow (of .family) (with .family)) index (bodyValue with (now (i .entry)) (bodyAt (now (i .entry)) place)))) ⌝ }
 {
     let family = of.family;
     let other = with.family;

@@ -1,12 +1,11 @@
 -- One law for each exit of `src/arrays.rt`.
 use Prim.Native.Nat.{ℕ, zero, suc, _+_, _-_, _≤_, _<_}
 use mathlib.Core.List.{List, [], _∷_}
-use mathlib.Core.Bool.{Bool, true, false, _&&_}
+use mathlib.Core.Bool.{Bool, true, false}
 use mathlib.Core.Path.{_≡_, refl, sym, ap, _∙_}
-use mathlib.Core.Option.{Option, none, some}
+use mathlib.Core.Option.{Option, some}
 use native.Mathlib.Omega.{arith}
 use lib.ListN.{length}
-use lib.Dec.{eqb}
 use borrow.Author.Tests.{eq-eqb, ne-eqb}
 use Rattle.base.specs.Pick.{pick}
 use Rattle.base.specs.Part.{part}
@@ -29,7 +28,7 @@ use Rattle.value.specs.Compare.{equality, compares}
 use Rattle.value.specs.Item.{itemValue}
 use Rattle.value.specs.declared.item.Item.{Item}
 use Rattle.value.specs.declared.item.Item.the-variants as item
-use Rattle.operand.specs.LiteralReading.{LiteralReading, misfit, outOfRange, malformed, reads, readLiteral}
+use Rattle.operand.specs.LiteralReading.{readLiteral}
 use Rattle.operand.specs.Element.{nextElement, elementsFrom, firstElement}
 use Rattle.operand.specs.Answers.{readingOf}
 use Rattle.operand.specs.declared.literal_read.LiteralRead.{LiteralRead}
@@ -56,11 +55,6 @@ module _ (op : Operator) (same : Bool) (b : Bool) where
 
   pub equality-told : b ≡ holds op (equality same) → (n : ℕ) → told b n ≡ told (holds op (equality same)) n
   equality-told e n = ap (λ (z : Bool). told z n) e
-
--- a value in a record
-pub compared-in : (op : Operator) (a b : List ℕ) (of : ValueType) (kind start len : ℕ) (x y : Item) → itemValue a x ≡ elementIn of kind (part a start len)
-    → (r : Bool) → r ≡ compares op (itemValue a x) (itemValue b y) → r ≡ compares op (elementIn of kind (part a start len)) (itemValue b y)
-compared-in op a b of kind start len x y e r f = f ∙ rw e
 
 -- a literal's value
 module _ (f : Family) (q : List ℕ) (t : Token) (r : LiteralRead) (e : readingOf q r ≡ readLiteral f q t) where
@@ -159,39 +153,10 @@ module _ (op : Operator) (xs ys : List (Option ScalarValue)) where
   unfolding truth steps sameArrays arraySteps
   pairs-never h = rw (sizes-apart xs ys h, ne-eqb (length xs) (length ys) h)
 
--- two arrays of equal size: what the next elements come to
-module _ (op : Operator) (a b : List ℕ) (t u : ValueType) (at bt n : ℕ) where
-  abbrev onwards : Pair → Told
-  onwards Stop = told (holds op (equality true)) n
-  onwards Differ = told (holds op (equality false)) (n + 1)
-  onwards (Go next next2) = pairsFrom op (n + 1) (elements t a (records a next)) (elements u b (records b next2))
-
-  abbrev rest : RecordAt → List (Option ScalarValue)
-  rest r = elements t a (follow at r (records a))
-
-  abbrev other : RecordAt → List (Option ScalarValue)
-  other r = elements u b (follow bt r (records b))
-
-  pairs-layer : (x y : RecordAt) → count (follow at x (records a)) ≡ count (follow bt y (records b)) → pairsFrom op n (rest x) (other y) ≡ onwards (pairOf t a u b x y)
-  unfolding elements count
-  pairs-layer (Whole k s m next) (Whole k2 s2 m2 next2) e = go (compares Equal (elementIn t k (part a s m)) (elementIn u k2 (part b s2 m2))) refl
-    where
-      go : (c : Bool) → compares Equal (elementIn t k (part a s m)) (elementIn u k2 (part b s2 m2)) ≡ c
-          → pairsFrom op n (elementIn t k (part a s m) ∷ elements t a (records a next)) (elementIn u k2 (part b s2 m2) ∷ elements u b (records b next2))
-          ≡ onwards (pick c (Go next next2) Differ)
-      go true h = from-same op n (elementIn t k (part a s m)) (elementIn u k2 (part b s2 m2)) (elements t a (records a next)) (elements u b (records b next2)) h
-      go false h = from-apart op n (elementIn t k (part a s m)) (elementIn u k2 (part b s2 m2)) (elements t a (records a next)) (elements u b (records b next2)) h
-  pairs-layer (Whole k s m next) Broken e = absurd (omega arith)
-  pairs-layer (Whole k s m next) End e = absurd (omega arith)
-  pairs-layer Broken (Whole k2 s2 m2 next2) e = absurd (omega arith)
-  pairs-layer Broken Broken e = from-none op n
-  pairs-layer Broken End e = from-none op n
-  pairs-layer End (Whole k2 s2 m2 next2) e = absurd (omega arith)
-  pairs-layer End Broken e = from-none op n
-  pairs-layer End End e = from-none op n
-
-  -- a pair stands within the first array; after an equal one the sizes are equal again
-  pub record Further (next next2 : ℕ) : Type 0 where
+-- two arrays of equal size: where the next elements stand
+module _ (a b : List ℕ) (t u : ValueType) (at bt : ℕ) where
+  -- after an equal pair, the sizes of the rest are equal again
+  record Further (next next2 : ℕ) : Type 0 where
     pub moves : at + 4 ≤ next
     pub within : next ≤ length a
     pub level : count (records a next) ≡ count (records b next2)
@@ -214,45 +179,108 @@ module _ (op : Operator) (a b : List ℕ) (t u : ValueType) (at bt n : ℕ) wher
   paired Broken y h e = tt
   paired End y h e = tt
 
-  module _ (w : Told) (inv : w ≡ pairsFrom op n (elements t a (records a at)) (elements u b (records b bt))) (level : count (records a at) ≡ count (records b bt))
-      (few : n ≤ at + 1) (p : Pair) (ep : p ≡ pairOf t a u b (recordAt a at) (recordAt b bt)) where
+  module _ (level : count (records a at) ≡ count (records b bt)) (p : Pair) (ep : p ≡ pairOf t a u b (recordAt a at) (recordAt b bt)) where
     level-here : count (follow at (recordAt a at) (records a)) ≡ count (follow bt (recordAt b bt) (records b))
     level-here = ap count (sym (records-at a at)) ∙ level ∙ ap count (records-at b bt)
-
-    pairs-are : w ≡ onwards p
-    pairs-are = inv ∙ rw (records-at a at, records-at b bt) (pairs-layer (recordAt a at) (recordAt b bt) level-here) ∙ ap onwards (sym ep)
 
     pair-said : Paired p
     pair-said = rw ep (paired (recordAt a at) (recordAt b bt) refl level-here)
 
+    pub differ-room : p ≡ Differ → (n : ℕ) → n ≤ at + 1 → n + 1 ≤ length a
+    differ-room h n k = let g : at + 4 ≤ length a = rw h at pair-said in omega arith
+
+    module _ (next next2 : ℕ) (h : p ≡ Go next next2) where
+      further : Further next next2
+      further = rw h at pair-said
+
+      pub go-level : count (records a next) ≡ count (records b next2)
+      go-level = further .level
+
+      pub go-less : length a - next < length a - at
+      go-less = let g = further in omega arith
+
+      pub go-counts : (n : ℕ) → n ≤ at + 1 → n + 1 ≤ next + 1
+      go-counts n k = let g = further in omega arith
+
+      pub go-room : (n : ℕ) → n ≤ at + 1 → n + 1 ≤ length a
+      go-room n k = let g = further in omega arith
+
+-- what they come to
+module _ (op : Operator) (a b : List ℕ) (t u : ValueType) (at bt n : ℕ) where
+  abbrev onwards : Pair → Told
+  onwards Stop = told (holds op (equality true)) n
+  onwards Differ = told (holds op (equality false)) (n + 1)
+  onwards (Go next next2) = pairsFrom op (n + 1) (elements t a (records a next)) (elements u b (records b next2))
+
+  pairs-layer : (x y : RecordAt) → count (follow at x (records a)) ≡ count (follow bt y (records b))
+      → pairsFrom op n (elements t a (follow at x (records a))) (elements u b (follow bt y (records b))) ≡ onwards (pairOf t a u b x y)
+  unfolding elements count
+  pairs-layer (Whole k s m next) (Whole k2 s2 m2 next2) e = go (compares Equal (elementIn t k (part a s m)) (elementIn u k2 (part b s2 m2))) refl
+    where
+      go : (c : Bool) → compares Equal (elementIn t k (part a s m)) (elementIn u k2 (part b s2 m2)) ≡ c
+          → pairsFrom op n (elementIn t k (part a s m) ∷ elements t a (records a next)) (elementIn u k2 (part b s2 m2) ∷ elements u b (records b next2))
+          ≡ onwards (pick c (Go next next2) Differ)
+      go true h = from-same op n (elementIn t k (part a s m)) (elementIn u k2 (part b s2 m2)) (elements t a (records a next)) (elements u b (records b next2)) h
+      go false h = from-apart op n (elementIn t k (part a s m)) (elementIn u k2 (part b s2 m2)) (elements t a (records a next)) (elements u b (records b next2)) h
+  pairs-layer (Whole k s m next) Broken e = absurd (omega arith)
+  pairs-layer (Whole k s m next) End e = absurd (omega arith)
+  pairs-layer Broken (Whole k2 s2 m2 next2) e = absurd (omega arith)
+  pairs-layer Broken Broken e = from-none op n
+  pairs-layer Broken End e = from-none op n
+  pairs-layer End (Whole k2 s2 m2 next2) e = absurd (omega arith)
+  pairs-layer End Broken e = from-none op n
+  pairs-layer End End e = from-none op n
+
+  module _ (w : Told) (inv : w ≡ pairsFrom op n (elements t a (records a at)) (elements u b (records b bt))) (level : count (records a at) ≡ count (records b bt))
+      (p : Pair) (ep : p ≡ pairOf t a u b (recordAt a at) (recordAt b bt)) where
+    pairs-are : w ≡ onwards p
+    pairs-are =
+        inv ∙ rw (records-at a at, records-at b bt) (pairs-layer (recordAt a at) (recordAt b bt) (level-here a b t u at bt level p ep)) ∙ ap onwards (sym ep)
+
     pub pairs-stop : p ≡ Stop → (r : Told) → r ≡ told (holds op (equality true)) n → r ≡ w
     pairs-stop h r e = e ∙ sym (pairs-are ∙ ap onwards h)
 
-    module _ (h : p ≡ Differ) where
-      pub pair-room : n + 1 ≤ length a
-      pair-room = let g : at + 4 ≤ length a = rw h at pair-said in omega arith
+    pub pairs-differ : p ≡ Differ → (r : Told) → r ≡ told (holds op (equality false)) (n + 1) → r ≡ w
+    pairs-differ h r e = e ∙ sym (pairs-are ∙ ap onwards h)
 
-      pub pairs-differ : (r : Told) → r ≡ told (holds op (equality false)) (n + 1) → r ≡ w
-      pairs-differ r e = e ∙ sym (pairs-are ∙ ap onwards h)
+    pub pairs-go : (next next2 : ℕ) → p ≡ Go next next2 → w ≡ pairsFrom op (n + 1) (elements t a (records a next)) (elements u b (records b next2))
+    pairs-go next next2 h = pairs-are ∙ ap onwards h
 
-    module _ (next next2 : ℕ) (h : p ≡ Go next next2) where
-      pair-further : Further next next2
-      pair-further = rw h at pair-said
+-- an array: where its next element stands
+module _ (a : List ℕ) (of : ValueType) (at : ℕ) (v : Option ScalarValue) where
+  abbrev Placed : Beside → Type 0
+  Placed Ended = Unit
+  Placed Unlike = at + 4 ≤ length a
+  Placed (Onward next) = (at + 4 ≤ next) × (next ≤ length a)
 
-      pub pairs-go : w ≡ pairsFrom op (n + 1) (elements t a (records a next)) (elements u b (records b next2))
-      pairs-go = pairs-are ∙ ap onwards h
+  placed : (x : RecordAt) → recordAt a at ≡ x → Placed (besideOf of a v x)
+  placed (Whole k s m next) h = let w = whole-in a at k s m next h in go (compares Equal (elementIn of k (part a s m)) v) w
+    where
+      go : (c : Bool) → WholeIn (length a) at s m next → Placed (pick c (Onward next) Unlike)
+      go true w = (omega arith, w .within)
+      go false w = omega arith
+  placed Broken h = tt
+  placed End h = tt
 
-      pub pairs-level : count (records a next) ≡ count (records b next2)
-      pairs-level = pair-further .level
+  module _ (p : Beside) (ep : p ≡ besideOf of a v (recordAt a at)) where
+    element-said : Placed p
+    element-said = rw ep (placed (recordAt a at) refl)
 
-      pub pairs-counted : n + 1 ≤ next + 1
-      pairs-counted = let g = pair-further in omega arith
+    pub unlike-room : p ≡ Unlike → (n : ℕ) → n ≤ at + 1 → n + 1 ≤ length a
+    unlike-room h n k = let g : at + 4 ≤ length a = rw h at element-said in omega arith
 
-      pub pairs-room : n + 1 ≤ length a
-      pairs-room = let g = pair-further in omega arith
+    module _ (next : ℕ) (h : p ≡ Onward next) where
+      passed : (at + 4 ≤ next) × (next ≤ length a)
+      passed = rw h at element-said
 
-      pub pairs-less : length a - next < length a - at
-      pairs-less = let g = pair-further in omega arith
+      pub onward-less : length a - next < length a - at
+      onward-less = let g = passed in omega arith
+
+      pub onward-counts : (n : ℕ) → n ≤ at + 1 → n + 1 ≤ next + 1
+      onward-counts n k = let g = passed in omega arith
+
+      pub onward-room : (n : ℕ) → n ≤ at + 1 → n + 1 ≤ length a
+      onward-room n k = let g = passed in omega arith
 
 -- the values of as many elements of an array literal as a size says
 abbrev pub literalsFrom : Family → (query : List ℕ) → Token → (size : ℕ) → List (Option ScalarValue)
@@ -263,7 +291,7 @@ unfolding literalValues elementsFrom
 length-literals f q t zero = refl
 length-literals f q t (suc n) = ap suc (length-literals f q (nextElement q t) n)
 
--- an array and as many elements of an array literal: what the next element comes to
+-- an array and as many elements of an array literal: what the next ones come to
 module _ (op : Operator) (a q : List ℕ) (of : ValueType) (f : Family) (at : ℕ) (t : Token) (n : ℕ) where
   abbrev along : Beside → Told
   along Ended = told (holds op (equality true)) n
@@ -285,54 +313,20 @@ module _ (op : Operator) (a q : List ℕ) (of : ValueType) (f : Family) (at : �
   literals-layer Broken = from-none op n
   literals-layer End = from-none op n
 
-  -- an element stands within the array
-  abbrev Placed : Beside → Type 0
-  Placed Ended = Unit
-  Placed Unlike = at + 4 ≤ length a
-  Placed (Onward next) = (at + 4 ≤ next) × (next ≤ length a)
-
-  placed : (x : RecordAt) → recordAt a at ≡ x → Placed (besideOf of a (valueRead (readLiteral f q t)) x)
-  placed (Whole k s m next) h = let w = whole-in a at k s m next h in go (compares Equal (elementIn of k (part a s m)) (valueRead (readLiteral f q t))) w
-    where
-      go : (c : Bool) → WholeIn (length a) at s m next → Placed (pick c (Onward next) Unlike)
-      go true w = (omega arith, w .within)
-      go false w = omega arith
-  placed Broken h = tt
-  placed End h = tt
-
-  module _ (w : Told) (inv : w ≡ pairsFrom op n (elements of a (records a at)) (literalsFrom f q t (count (records a at)))) (few : n ≤ at + 1)
+  module _ (w : Told) (inv : w ≡ pairsFrom op n (elements of a (records a at)) (literalsFrom f q t (count (records a at))))
       (p : Beside) (ep : p ≡ besideOf of a (valueRead (readLiteral f q t)) (recordAt a at)) where
     literals-are : w ≡ along p
     literals-are = inv ∙ rw (records-at a at) (literals-layer (recordAt a at)) ∙ ap along (sym ep)
 
-    element-said : Placed p
-    element-said = rw ep (placed (recordAt a at) refl)
-
     pub literals-stop : p ≡ Ended → (r : Told) → r ≡ told (holds op (equality true)) n → r ≡ w
     literals-stop h r e = e ∙ sym (literals-are ∙ ap along h)
 
-    module _ (h : p ≡ Unlike) where
-      pub element-room : n + 1 ≤ length a
-      element-room = let g : at + 4 ≤ length a = rw h at element-said in omega arith
+    pub literals-differ : p ≡ Unlike → (r : Told) → r ≡ told (holds op (equality false)) (n + 1) → r ≡ w
+    literals-differ h r e = e ∙ sym (literals-are ∙ ap along h)
 
-      pub literals-differ : (r : Told) → r ≡ told (holds op (equality false)) (n + 1) → r ≡ w
-      literals-differ r e = e ∙ sym (literals-are ∙ ap along h)
-
-    module _ (next : ℕ) (h : p ≡ Onward next) where
-      element-further : (at + 4 ≤ next) × (next ≤ length a)
-      element-further = rw h at element-said
-
-      pub literals-go : (v : Token) → v ≡ nextElement q t → w ≡ pairsFrom op (n + 1) (elements of a (records a next)) (literalsFrom f q v (count (records a next)))
-      literals-go v e = literals-are ∙ ap along h ∙ rw (← e)
-
-      pub literals-counted : n + 1 ≤ next + 1
-      literals-counted = let g = element-further in omega arith
-
-      pub literals-room : n + 1 ≤ length a
-      literals-room = let g = element-further in omega arith
-
-      pub literals-less : length a - next < length a - at
-      literals-less = let g = element-further in omega arith
+    pub literals-go : (next : ℕ) → p ≡ Onward next → (v : Token) → v ≡ nextElement q t
+        → w ≡ pairsFrom op (n + 1) (elements of a (records a next)) (literalsFrom f q v (count (records a next)))
+    literals-go next h v e = literals-are ∙ ap along h ∙ rw (← e)
 
 -- before the first pair
 module _ (op : Operator) (a : List ℕ) (of : ValueType) where

@@ -2,3 +2,4 @@ pub mod Placing
 pub mod Searching
 pub mod Comparing
 pub mod Liking
+pub mod Bounds

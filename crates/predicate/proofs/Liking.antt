@@ -1,9 +1,9 @@
 -- One law for each exit of `src/text.rt`.
-use Prim.Native.Nat.{ℕ, _+_, _-_, _≤_, _<_}
+use Prim.Native.Nat.{ℕ, _+_, _≤_}
 use mathlib.Core.List.{List, [], _∷_}
-use mathlib.Core.Bool.{Bool, true, false}
-use mathlib.Core.Path.{_≡_, refl, sym, ap, _∙_}
-use mathlib.Core.Option.{Option, none, some}
+use mathlib.Core.Bool.{Bool, false}
+use mathlib.Core.Path.{_≡_, refl, ap, _∙_}
+use mathlib.Core.Option.{none, some}
 use native.Mathlib.Omega.{arith}
 use lib.ListN.{length}
 use borrow.Author.Tests.{eq-eqb, ne-eqb}
@@ -16,17 +16,16 @@ use Rattle.record.specs.declared.kind.Family.the-variants as family
 use Rattle.record.specs.declared.kind.ValueType.{ValueType}
 use Rattle.unicode.specs.Characters.{characters}
 use Rattle.unicode.proofs.Characters.{characters-fewer}
-use Rattle.pattern.specs.Regex.{Regex}
 use Rattle.pattern.specs.declared.matcher.Matched.{Matched}
 use Rattle.token.specs.declared.Token.{Token}
-use Rattle.instance.specs.Value.{ScalarValue, familyValue, scalarIn}
+use Rattle.instance.specs.Value.{familyValue, scalarIn}
 use Rattle.value.specs.Read.{valueInRecord}
-use Rattle.operand.specs.PatternLiteral.{patternOf, matched}
+use Rattle.operand.specs.PatternLiteral.{matched}
 use Rattle.short_circuit.specs.Walk.{told}
 use Rattle.short_circuit.specs.declared.Told.{Told}
-use Rattle.predicate.specs.Test.{like, truth, steps, reversedIf, likeHolds, size}
+use Rattle.predicate.specs.Test.{truth, steps, reversedIf, likeHolds, size}
 use Rattle.predicate.specs.Place.{sourceBytes, spotValue, asText}
-use Rattle.predicate.specs.Answers.{performed, Likes}
+use Rattle.predicate.specs.Answers.{Likes}
 use Rattle.predicate.specs.declared.place.Spot.{Spot}
 use Rattle.predicate.proofs.Searching.{of-false}
 
@@ -36,6 +35,28 @@ match-told negated m b e = ap (λ (z : Bool). told z (1 + m .characters)) e
 
 pub nothing-told : (negated : Bool) → told negated 1 ≡ told (reversedIf negated false) 1
 nothing-told negated = ap (λ (z : Bool). told z 1) (of-false negated)
+
+-- families whose values are no texts
+abbrev pub NoText : Family → Type 0
+NoText family.Boolean = Unit
+NoText family.Integer = Unit
+NoText family.Real = Unit
+NoText family.Text = ⊥
+NoText family.Char16 = ⊥
+NoText family.Octets = Unit
+NoText family.Datetime = Unit
+NoText family.Reference = Unit
+
+no-text : (f : Family) (w : ℕ) (g : Bool) (s : List ℕ) → NoText f → asText (some (familyValue f w g s)) ≡ none
+unfolding asText familyValue
+no-text family.Boolean w g s n = refl
+no-text family.Integer w g s n = refl
+no-text family.Real w g s n = refl
+no-text family.Text w g s n = absurd n
+no-text family.Char16 w g s n = absurd n
+no-text family.Octets w g s n = refl
+no-text family.Datetime w g s n = refl
+no-text family.Reference w g s n = refl
 
 -- a body
 module _ (q : List ℕ) (t : Token) (negated : Bool) (f : Family) (w : ℕ) (g : Bool) (s : List ℕ) where
@@ -48,30 +69,9 @@ module _ (q : List ℕ) (t : Token) (negated : Bool) (f : Family) (w : ℕ) (g :
     unfolding truth steps likeHolds size asText familyValue
     like-char16 h n en e p ep = er ∙ rw (e, ep, h, en)
 
-  module _ (r : Told) (er : r ≡ told (reversedIf negated false) 1) where
-    pub like-boolean : f ≡ family.Boolean → Likes q t negated (some (familyValue f w g s)) r
-    unfolding truth steps likeHolds size asText familyValue
-    like-boolean h p ep = er ∙ rw h
-
-    pub like-integer : f ≡ family.Integer → Likes q t negated (some (familyValue f w g s)) r
-    unfolding truth steps likeHolds size asText familyValue
-    like-integer h p ep = er ∙ rw h
-
-    pub like-real : f ≡ family.Real → Likes q t negated (some (familyValue f w g s)) r
-    unfolding truth steps likeHolds size asText familyValue
-    like-real h p ep = er ∙ rw h
-
-    pub like-octets : f ≡ family.Octets → Likes q t negated (some (familyValue f w g s)) r
-    unfolding truth steps likeHolds size asText familyValue
-    like-octets h p ep = er ∙ rw h
-
-    pub like-datetime : f ≡ family.Datetime → Likes q t negated (some (familyValue f w g s)) r
-    unfolding truth steps likeHolds size asText familyValue
-    like-datetime h p ep = er ∙ rw h
-
-    pub like-reference : f ≡ family.Reference → Likes q t negated (some (familyValue f w g s)) r
-    unfolding truth steps likeHolds size asText familyValue
-    like-reference h p ep = er ∙ rw h
+  pub like-other : (h : Family) → f ≡ h → NoText h → (r : Told) → r ≡ told (reversedIf negated false) 1 → Likes q t negated (some (familyValue f w g s)) r
+  unfolding truth steps likeHolds size
+  like-other h e n r er p ep = er ∙ rw (e, no-text h w g s n)
 
 -- a text has no more characters than bytes
 module _ (q : List ℕ) (t : Token) (m : Matched) where

@@ -2,7 +2,7 @@
 use Prim.Native.Nat.{ℕ}
 use mathlib.Core.List.{List}
 use mathlib.Core.Bool.{Bool}
-use mathlib.Core.Path.{_≡_, refl, sym, ap, _∙_}
+use mathlib.Core.Path.{_≡_, _∙_}
 use borrow.Author.Tests.{eq-eqb, ne-eqb}
 use Rattle.base.specs.Part.{part}
 use Rattle.base.specs.declared.order.Operator.{Operator}
@@ -10,6 +10,7 @@ use Rattle.record.specs.Record.{recordAt}
 use Rattle.record.specs.declared.read.RecordAt.{RecordAt}
 use Rattle.record.specs.declared.read.RecordAt.the-variants.{Whole, Broken, End}
 use Rattle.record.specs.declared.kind.ValueType.{ValueType}
+use Rattle.instance.specs.Value.{elementIn}
 use Rattle.value.specs.Compare.{compares}
 use Rattle.value.specs.Item.{itemValue}
 use Rattle.value.specs.Read.{valueInRecord}
@@ -28,6 +29,11 @@ module _ (q i : List ℕ) (of : ValueType) (x : Spot) (y : Located) (a b : List 
   pub spot-compared : (op : Operator) (z : Item) → itemValue a z ≡ valueInRecord of a (x .place) → (r : Bool) → r ≡ compares op (itemValue a z) (itemValue b (y .item))
       → r ≡ compares op (spotValue of q i x) (locatedValue q i y)
   spot-compared op z e r f = f ∙ rw (e, left, right)
+
+-- a value in a record
+pub compared-in : (op : Operator) (a b : List ℕ) (of : ValueType) (kind start len : ℕ) (x y : Item) → itemValue a x ≡ elementIn of kind (part a start len)
+    → (r : Bool) → r ≡ compares op (itemValue a x) (itemValue b y) → r ≡ compares op (elementIn of kind (part a start len)) (itemValue b y)
+compared-in op a b of kind start len x y e r f = f ∙ rw e
 
 -- an array's body
 module _ (i : List ℕ) (place : ℕ) (r : RecordAt) (er : r ≡ recordAt i place) where

@@ -1,12 +1,11 @@
 -- One law for each exit of `src/search.rt`.
-use Prim.Native.Nat.{ℕ, suc, _+_, _≤_, _<_}
+use Prim.Native.Nat.{ℕ, _+_, _≤_}
 use mathlib.Core.List.{List, [], _∷_}
 use mathlib.Core.Bool.{Bool, true, false, not}
 use mathlib.Core.Path.{_≡_, refl, sym, ap, _∙_}
-use mathlib.Core.Option.{Option, none, some}
+use mathlib.Core.Option.{Option, some}
 use native.Mathlib.Omega.{arith}
 use lib.ListN.{length}
-use Rattle.base.specs.Pick.{pick}
 use Rattle.base.specs.Part.{part}
 use Rattle.base.specs.declared.order.Operator.{Operator}
 use Rattle.base.proofs.Says.{apart}
@@ -19,7 +18,6 @@ use Rattle.record.proofs.Reach.{step-in}
 use Rattle.instance.specs.Value.{ScalarValue, elementIn, elements}
 use Rattle.value.specs.Compare.{compares}
 use Rattle.value.specs.Item.{itemValue}
-use Rattle.value.specs.declared.item.Item.{Item}
 use Rattle.short_circuit.specs.Walk.{told}
 use Rattle.short_circuit.specs.declared.Told.{Told}
 use Rattle.predicate.specs.Test.{

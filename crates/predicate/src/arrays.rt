@@ -1,5 +1,6 @@
 // Whole arrays: of an instance, or an array literal's on the right.
 use crate::place::Body;
+use crate::place::holds_in;
 use base::bytes::piece;
 use base::order::Operator;
 use base::order::Order;
@@ -14,7 +15,6 @@ use record::read::RecordAt;
 use record::read::record_at;
 use short_circuit::Told;
 use token::Token;
-use value::compare::compare_items;
 use value::item::Item;
 use value::read::count_elements;
 use value::read::read_item;
@@ -67,22 +67,14 @@ fn tell(op: Operator, same: bool, steps: usize) -> Told
     }
 }
 
-// Whether the value in a record equals that in another.
-fn same_in<'a>(
+fn pair_at<'a>(
     a: &'a [u8],
     of: ValueType,
-    kind: usize,
-    start: usize,
-    length: usize,
+    at: usize,
     b: &'a [u8],
-    y: Item,
-) -> bool
-    ensures { λ r. ⌜ r ≡ compares Operator.Equal (elementIn of kind (part (now (a .entry)) start length)) (itemValue (now (b .entry)) y) ⌝ }
-{
-    compare_items(Operator::Equal, a, read_item(a, of, kind, start, length), b, y)
-}
-
-fn pair_at<'a>(a: &'a [u8], of: ValueType, at: usize, b: &'a [u8], with: ValueType, bt: usize) -> Pair
+    with: ValueType,
+    bt: usize,
+) -> Pair
     ensures { λ r. ⌜ r ≡ pairOf of (now (a .entry)) with (now (b .entry)) (recordAt (now (a .entry)) at) (recordAt (now (b .entry)) bt) ⌝ }
 {
     match record_at(a, at) {
@@ -99,7 +91,7 @@ fn pair_at<'a>(a: &'a [u8], of: ValueType, at: usize, b: &'a [u8], with: ValueTy
                 next: then,
             } => {
                 let y = read_item(b, with, other, from, size);
-                if same_in(a, of, kind, start, length, b, y) {
+                if holds_in(Operator::Equal, a, of, kind, start, length, b, y) {
                     return Pair::Go(next, then);
                 }
                 Pair::Differ
@@ -134,7 +126,14 @@ fn compare_pairs<'a>(op: Operator, a: &'a [u8], of: ValueType, b: &'a [u8], with
 }
 
 // Two arrays of an instance.
-pub fn compare_bodies(op: Operator, i: &[u8], of: ValueType, x: Body, with: ValueType, y: Body) -> Told
+pub fn compare_bodies(
+    op: Operator,
+    i: &[u8],
+    of: ValueType,
+    x: Body,
+    with: ValueType,
+    y: Body,
+) -> Told
     ensures { λ r. ⌜ r ≡ performed (test.arrays op (bodyValue of (now (i .entry)) x) (bodyValue with (now (i .entry)) y)) ⌝ }
 {
     match x {
@@ -180,7 +179,7 @@ fn beside_at<'a>(a: &'a [u8], of: ValueType, at: usize, q: &'a [u8], t: Token) -
         } => {
             let family = of.family;
             let y = literal_item_or_null(family, q, t);
-            if same_in(a, of, kind, start, length, q, y) {
+            if holds_in(Operator::Equal, a, of, kind, start, length, q, y) {
                 return Beside::Onward(next);
             }
             Beside::Unlike

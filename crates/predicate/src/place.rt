@@ -7,8 +7,12 @@ use record::read::record_at;
 use value::compare::compare_items;
 use value::item::Item;
 use value::read::item_at;
+use value::read::read_item;
 ghost use mathlib.Core.Path.{_≡_};
+ghost use Rattle.base.specs.Part.{part};
+ghost use Rattle.instance.specs.Value.{elementIn};
 ghost use Rattle.value.specs.Compare.{compares};
+ghost use Rattle.value.specs.Item.{itemValue};
 ghost use Rattle.predicate.specs.Place.{sourceBytes, spotValue, locatedValue, bodyAt};
 
 // The query, the instance, or the part of the instance that has the second number of bytes at the first.
@@ -63,6 +67,22 @@ pub fn compare_spot<'a>(
     let a = bytes_of(q, i, left);
     let b = bytes_of(q, i, right);
     compare_items(op, a, item_at(a, x.place, of), b, item)
+}
+
+// Whether the operator holds of the value in a record of `a` and a value of `b`.
+pub fn holds_in<'a>(
+    op: Operator,
+    a: &'a [u8],
+    of: ValueType,
+    kind: usize,
+    start: usize,
+    length: usize,
+    b: &'a [u8],
+    y: Item,
+) -> bool
+    ensures { λ r. ⌜ r ≡ compares op (elementIn of kind (part (now (a .entry)) start length)) (itemValue (now (b .entry)) y) ⌝ }
+{
+    compare_items(op, a, read_item(a, of, kind, start, length), b, y)
 }
 
 // The body of the array in the record at a place.

@@ -2,21 +2,17 @@
 use crate::place::Body;
 use crate::place::Located;
 use crate::place::bytes_of;
+use crate::place::holds_in;
 use base::bytes::piece;
 use base::order::Operator;
 use record::kind::ValueType;
 use record::read::RecordAt;
 use record::read::record_at;
 use short_circuit::Told;
-use value::compare::compare_items;
 use value::item::Item;
-use value::read::read_item;
 ghost use mathlib.Core.Path.{_≡_};
 ghost use mathlib.Core.Option.{some};
 ghost use mathlib.Core.Bool.{false};
-ghost use Rattle.base.specs.Part.{part};
-ghost use Rattle.instance.specs.Value.{elementIn};
-ghost use Rattle.value.specs.Compare.{compares};
 ghost use Rattle.value.specs.Item.{itemValue};
 ghost use Rattle.short_circuit.specs.Walk.{told};
 ghost use Rattle.predicate.specs.Test as test;
@@ -38,22 +34,6 @@ fn decides(any: bool, holds: bool) -> bool
     ensures { λ r. ⌜ r ≡ test.decides any holds ⌝ }
 {
     reverse_if(!any, holds)
-}
-
-// Whether the operator holds of the value in a record of `a` and a value of `b`.
-fn holds_in<'a>(
-    op: Operator,
-    a: &'a [u8],
-    of: ValueType,
-    kind: usize,
-    start: usize,
-    length: usize,
-    b: &'a [u8],
-    y: Item,
-) -> bool
-    ensures { λ r. ⌜ r ≡ compares op (elementIn of kind (part (now (a .entry)) start length)) (itemValue (now (b .entry)) y) ⌝ }
-{
-    compare_items(op, a, read_item(a, of, kind, start, length), b, y)
 }
 
 // The records of an array: the search ends at the first element that decides it.

@@ -16,7 +16,7 @@ use token::Token;
 ghost use Prim.Native.Nat.{_+_, _<_};
 ghost use mathlib.Core.Path.{_≡_};
 ghost use mathlib.Core.Bool.{false};
-ghost use mathlib.Core.Option.{none, some};
+ghost use mathlib.Core.Option.{some};
 ghost use Rattle.instance.specs.Value.{scalarIn};
 ghost use Rattle.value.specs.Read.{valueInRecord};
 ghost use Rattle.short_circuit.specs.Walk.{told};
@@ -61,7 +61,14 @@ fn like_body<'a>(q: &'a [u8], t: Token, negated: bool, of: ValueType, body: &'a 
     }
 }
 
-fn like_record<'a>(q: &'a [u8], t: Token, negated: bool, of: ValueType, a: &'a [u8], place: usize) -> Told
+fn like_record<'a>(
+    q: &'a [u8],
+    t: Token,
+    negated: bool,
+    of: ValueType,
+    a: &'a [u8],
+    place: usize,
+) -> Told
     ensures { λ r. ⌜ Likes (now (q .entry)) t negated (valueInRecord of (now (a .entry)) place) r ⌝ }
 {
     match record_at(a, place) {

@@ -1,72 +1,68 @@
+use borrow.Author.Needs.{needs}
+use Prim.Native.Nat.{_+_, _-_, _≤_}
+use mathlib.Core.Path.{_≡_}
+use mathlib.Core.Option.{some}
+use native.Mathlib.Omega.{arith}
+use lib.ListN.{length}
+use Rattle.record.specs.Record.{records}
+use Rattle.instance.specs.Conforms.{count}
+use Rattle.instance.specs.Value.{elements}
+use Rattle.predicate.specs.Test.{arrays}
+use Rattle.predicate.specs.Place.{elementsOf}
+use Rattle.predicate.specs.Answers.{performed}
+use Rattle.predicate.proofs.Comparing as law
 use Rattle.predicate.proofs.arrays.compare_literals.Statement.{statement}
 use Rattle.predicate.proofs.arrays.compare_literals.Tie as tie
-use Rattle.predicate.proofs.arrays.compare_literals.Reads as reads
-use Rattle.predicate.proofs.arrays.compare_literals.Lts as lts
-use Rattle.operand.proofs.element.next_element.Reads as next-element-reads
-use Rattle.predicate.proofs.arrays.beside_at.Reads as beside-at-reads
-use Rattle.predicate.proofs.arrays.tell.Reads as tell-reads
 
 abbrev Inv-loop : tie.InvT-loop
-Inv-loop op a of q at₀ t₀ n₀ at t n = ?
+Inv-loop op a of q at₀ t₀ n₀ at t n = (performed (arrays op (some (elementsOf of a)) (some (law.literalsFrom (of .family) q t₀ (count (records a 0)))))
+    ≡ law.pairsFrom op n (elements of a (records a at)) (law.literalsFrom (of .family) q t (count (records a at))))
+    × (n ≤ at + 1)
 
 abbrev μ-loop : tie.MeasureT-loop
-μ-loop op a of q at₀ t₀ n₀ at t n = ?
+μ-loop op a of q at₀ t₀ n₀ at t n = length a - at
 
--- src/arrays.rt:200:5
 loop-holds : tie.Need-loop-holds Inv-loop μ-loop
-loop-holds c = ?
+loop-holds c = (law.literals-first _ _ _ _ _ _, search needs)
 
--- src/arrays.rt:201:15
 beside-at-requires : tie.Need-beside-at-requires Inv-loop μ-loop
-beside-at-requires c κs = ?
+beside-at-requires c κs = search needs
 
--- src/arrays.rt:202:36
 enum-told : tie.Need-enum-told Inv-loop μ-loop
-enum-told c = ?
+enum-told c = search needs
 
--- src/arrays.rt:202:36
 tell-requires : tie.Need-tell-requires Inv-loop μ-loop
-tell-requires c κs = ?
+tell-requires c κs = search needs
 
--- src/arrays.rt:203:53
 enum-told-2 : tie.Need-enum-told-2 Inv-loop μ-loop
-enum-told-2 c = ?
+enum-told-2 c = search needs
 
--- src/arrays.rt:203:53
 add-tell : tie.Need-add-tell Inv-loop μ-loop
-add-tell c = ?
+add-tell c = let m = law.unlike-room _ _ _ _ _ (c .before .before .beside-at .ensures) (c .enum-told2 .given .1) _ (c .before .before .before .loop .inv .1) in omega arith
 
--- src/arrays.rt:203:37
 tell-requires-2 : tie.Need-tell-requires-2 Inv-loop μ-loop
-tell-requires-2 c κs = ?
+tell-requires-2 c κs = search needs
 
--- src/arrays.rt:204:28
 enum-known-next : tie.Need-enum-known-next Inv-loop μ-loop
-enum-known-next c = ?
+enum-known-next c = search needs
 
--- src/arrays.rt:206:17
 next-element-requires : tie.Need-next-element-requires Inv-loop μ-loop
-next-element-requires c κs = ?
+next-element-requires c κs = search needs
 
--- src/arrays.rt:207:17
 add-n : tie.Need-add-n Inv-loop μ-loop
-add-n c = ?
+add-n c = let m = law.onward-room _ _ _ _ _ (c .before .before .before .before .beside-at .ensures) _ (c .before .before .next .given .1) _ (c .before .before .before .before .before .loop .inv .1) in omega arith
 
--- src/arrays.rt:200:5
 loop-less : tie.Need-loop-less Inv-loop μ-loop
-loop-less c = ?
+loop-less c = search law.onward-less
 
--- src/arrays.rt:200:5
 loop-again : tie.Need-loop-again Inv-loop μ-loop
-loop-again c = ?
+loop-again c = (search law.literals-go, search law.onward-counts)
 
--- src/arrays.rt:194:1
 returns : tie.Need-returns Inv-loop μ-loop
-returns c = ?
+returns c = search law.literals-stop
 
--- src/arrays.rt:194:1
 returns-2 : tie.Need-returns-2 Inv-loop μ-loop
-returns-2 c = ?
+returns-2 c = search law.literals-differ
 
 pub compare-literals-spec : {M : Type 1} → statement M
 compare-literals-spec =

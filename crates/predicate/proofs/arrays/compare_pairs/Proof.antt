@@ -1,67 +1,64 @@
+use borrow.Author.Needs.{needs}
+use Prim.Native.Nat.{_+_, _-_, _≤_}
+use mathlib.Core.Path.{_≡_}
+use mathlib.Core.Option.{some}
+use native.Mathlib.Omega.{arith}
+use lib.ListN.{length}
+use Rattle.record.specs.Record.{records}
+use Rattle.instance.specs.Conforms.{count}
+use Rattle.instance.specs.Value.{elements}
+use Rattle.predicate.specs.Test.{arrays}
+use Rattle.predicate.specs.Place.{elementsOf}
+use Rattle.predicate.specs.Answers.{performed}
+use Rattle.predicate.proofs.Comparing as law
 use Rattle.predicate.proofs.arrays.compare_pairs.Statement.{statement}
 use Rattle.predicate.proofs.arrays.compare_pairs.Tie as tie
-use Rattle.predicate.proofs.arrays.compare_pairs.Reads as reads
-use Rattle.predicate.proofs.arrays.compare_pairs.Lts as lts
-use Rattle.predicate.proofs.arrays.pair_at.Reads as pair-at-reads
-use Rattle.predicate.proofs.arrays.tell.Reads as tell-reads
 
 abbrev Inv-loop : tie.InvT-loop
-Inv-loop op a of b with at₀ bt₀ n₀ at bt n = ?
+Inv-loop op a of b with at₀ bt₀ n₀ at bt n = (performed (arrays op (some (elementsOf of a)) (some (elementsOf with b))) ≡ law.pairsFrom op n (elements of a (records a at)) (elements with b (records b bt)))
+    × (count (records a at) ≡ count (records b bt)) × (n ≤ at + 1)
 
 abbrev μ-loop : tie.MeasureT-loop
-μ-loop op a of b with at₀ bt₀ n₀ at bt n = ?
+μ-loop op a of b with at₀ bt₀ n₀ at bt n = length a - at
 
--- src/arrays.rt:123:5
 loop-holds : tie.Need-loop-holds Inv-loop μ-loop
-loop-holds c = ?
+loop-holds c = (law.pairs-first _ _ _ _ _ (c .before .before .pre), (c .before .before .pre), search needs)
 
--- src/arrays.rt:124:15
 pair-at-requires : tie.Need-pair-at-requires Inv-loop μ-loop
-pair-at-requires c κs = ?
+pair-at-requires c κs = search needs
 
--- src/arrays.rt:125:33
 enum-told : tie.Need-enum-told Inv-loop μ-loop
-enum-told c = ?
+enum-told c = search needs
 
--- src/arrays.rt:125:33
 tell-requires : tie.Need-tell-requires Inv-loop μ-loop
-tell-requires c κs = ?
+tell-requires c κs = search needs
 
--- src/arrays.rt:126:51
 enum-told-2 : tie.Need-enum-told-2 Inv-loop μ-loop
-enum-told-2 c = ?
+enum-told-2 c = search needs
 
--- src/arrays.rt:126:51
 add-tell : tie.Need-add-tell Inv-loop μ-loop
-add-tell c = ?
+add-tell c = let m = law.differ-room _ _ _ _ _ _ (c .before .before .before .loop .inv .1) _ (c .before .before .pair-at .ensures) (c .enum-told2 .given .1) _ (c .before .before .before .loop .inv .2) in omega arith
 
--- src/arrays.rt:126:35
 tell-requires-2 : tie.Need-tell-requires-2 Inv-loop μ-loop
-tell-requires-2 c κs = ?
+tell-requires-2 c κs = search needs
 
--- src/arrays.rt:127:22
 enum-known-next : tie.Need-enum-known-next Inv-loop μ-loop
-enum-known-next c = ?
+enum-known-next c = search needs
 
--- src/arrays.rt:130:17
 add-n : tie.Need-add-n Inv-loop μ-loop
-add-n c = ?
+add-n c = let m = law.go-room _ _ _ _ _ _ (c .before .before .before .before .loop .inv .1) _ (c .before .before .before .pair-at .ensures) _ _ (c .before .next .given .1) _ (c .before .before .before .before .loop .inv .2) in omega arith
 
--- src/arrays.rt:123:5
 loop-less : tie.Need-loop-less Inv-loop μ-loop
-loop-less c = ?
+loop-less c = search law.go-less
 
--- src/arrays.rt:123:5
 loop-again : tie.Need-loop-again Inv-loop μ-loop
-loop-again c = ?
+loop-again c = (search law.pairs-go, search law.go-level, search law.go-counts)
 
--- src/arrays.rt:116:1
 returns : tie.Need-returns Inv-loop μ-loop
-returns c = ?
+returns c = search law.pairs-stop
 
--- src/arrays.rt:116:1
 returns-2 : tie.Need-returns-2 Inv-loop μ-loop
-returns-2 c = ?
+returns-2 c = search law.pairs-differ
 
 pub compare-pairs-spec : {M : Type 1} → statement M
 compare-pairs-spec =

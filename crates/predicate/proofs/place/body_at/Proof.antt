@@ -2,39 +2,28 @@ use Rattle.predicate.proofs.Placing as law
 use borrow.Author.Needs.{needs}
 use Rattle.predicate.proofs.place.body_at.Statement.{statement}
 use Rattle.predicate.proofs.place.body_at.Tie as tie
-use Rattle.predicate.proofs.place.body_at.Reads as reads
-use Rattle.predicate.proofs.place.body_at.Lts as lts
-use Rattle.record.proofs.read.record_at.Reads as record-at-reads
 
--- src/place.rt:69:11
 record-at-requires : tie.Need-record-at-requires
 record-at-requires c κs = search needs
 
--- src/place.rt:71:13
 enum-known-kind : tie.Need-enum-known-kind
 enum-known-kind c = search needs
 
--- src/place.rt:77:17
 returns : tie.Need-returns
 returns c = search law.body-null
 
--- src/place.rt:81:29
 enum-told : tie.Need-enum-told
 enum-told c = search needs
 
--- src/place.rt:82:26
 enum-told-2 : tie.Need-enum-told-2
 enum-told-2 c = search needs
 
--- src/place.rt:66:1
 returns-2 : tie.Need-returns-2
 returns-2 c = search law.body-stands
 
--- src/place.rt:66:1
 returns-3 : tie.Need-returns-3
 returns-3 c = search law.body-broken
 
--- src/place.rt:66:1
 returns-4 : tie.Need-returns-4
 returns-4 c = search law.body-missing
 

@@ -1,72 +1,70 @@
+use borrow.Author.Needs.{needs}
+use Prim.Native.Nat.{_+_, _-_, _≤_}
+use mathlib.Core.Path.{_≡_}
+use mathlib.Core.Bool.{false}
+use mathlib.Core.Option.{some}
+use native.Mathlib.Omega.{arith}
+use lib.ListN.{length}
+use Rattle.record.specs.Record.{records}
+use Rattle.record.proofs.Reach as reach
+use Rattle.instance.specs.Value.{elements}
+use Rattle.value.specs.Item.{itemValue}
+use Rattle.predicate.specs.Test as test
+use Rattle.predicate.specs.Place.{elementsOf}
+use Rattle.predicate.specs.Answers.{performed}
+use Rattle.predicate.proofs.Searching as law
 use Rattle.predicate.proofs.search.search_records.Statement.{statement}
 use Rattle.predicate.proofs.search.search_records.Tie as tie
-use Rattle.predicate.proofs.search.search_records.Reads as reads
-use Rattle.predicate.proofs.search.search_records.Lts as lts
-use Rattle.predicate.proofs.search.decides.Reads as decides-reads
-use Rattle.predicate.proofs.search.holds_in.Reads as holds-in-reads
-use Rattle.record.proofs.read.record_at.Reads as record-at-reads
 
 abbrev Inv-loop : tie.InvT-loop
-Inv-loop any op a of b y at₀ n₀ at n = ?
+Inv-loop any op a of b y at₀ n₀ at n = (performed (test.search false any op (some (elementsOf of a)) (itemValue b y))
+    ≡ law.searchFrom any (test.besides op (itemValue b y)) n (elements of a (records a at)))
+    × (n ≤ at + 1)
 
 abbrev μ-loop : tie.MeasureT-loop
-μ-loop any op a of b y at₀ n₀ at n = ?
+μ-loop any op a of b y at₀ n₀ at n = length a - at
 
--- src/search.rt:72:5
 loop-holds : tie.Need-loop-holds Inv-loop μ-loop
-loop-holds c = ?
+loop-holds c = (law.search-start _ _ _ _ _, search needs)
 
--- src/search.rt:73:15
 record-at-requires : tie.Need-record-at-requires Inv-loop μ-loop
-record-at-requires c κs = ?
+record-at-requires c κs = search needs
 
--- src/search.rt:75:17
 enum-known-kind : tie.Need-enum-known-kind Inv-loop μ-loop
-enum-known-kind c = ?
+enum-known-kind c = search needs
 
--- src/search.rt:80:33
 holds-in-requires : tie.Need-holds-in-requires Inv-loop μ-loop
-holds-in-requires c κs = ?
+holds-in-requires c κs = search needs
 
--- src/search.rt:80:20
 decides-requires : tie.Need-decides-requires Inv-loop μ-loop
-decides-requires c κs = ?
+decides-requires c κs = search needs
 
--- src/search.rt:83:32
 add-t17 : tie.Need-add-t17 Inv-loop μ-loop
-add-t17 c = ?
+add-t17 c = let m = law.step-room _ _ (c .before .before .before .before .before .before .record-at .ensures) (c .before .before .before .before .kind .given .1) _ (c .before .before .before .before .before .before .before .loop .inv .1) in omega arith
 
--- src/search.rt:87:17
 add-n : tie.Need-add-n Inv-loop μ-loop
-add-n c = ?
+add-n c = let m = law.step-room _ _ (c .before .before .before .before .before .before .record-at .ensures) (c .before .before .before .before .kind .given .1) _ (c .before .before .before .before .before .before .before .loop .inv .1) in omega arith
 
--- src/search.rt:72:5
 loop-less : tie.Need-loop-less Inv-loop μ-loop
-loop-less c = ?
+loop-less c = search reach.step-less
 
--- src/search.rt:72:5
 loop-again : tie.Need-loop-again Inv-loop μ-loop
-loop-again c = ?
+loop-again c = (search law.search-next, search law.step-counts)
 
--- src/search.rt:91:28
 enum-told : tie.Need-enum-told Inv-loop μ-loop
-enum-told c = ?
+enum-told c = search needs
 
--- src/search.rt:97:28
 enum-told-2 : tie.Need-enum-told-2 Inv-loop μ-loop
-enum-told-2 c = ?
+enum-told-2 c = search needs
 
--- src/search.rt:60:1
 returns : tie.Need-returns Inv-loop μ-loop
-returns c = ?
+returns c = search law.search-decided
 
--- src/search.rt:60:1
 returns-2 : tie.Need-returns-2 Inv-loop μ-loop
-returns-2 c = ?
+returns-2 c = search law.search-broken
 
--- src/search.rt:60:1
 returns-3 : tie.Need-returns-3 Inv-loop μ-loop
-returns-3 c = ?
+returns-3 c = search law.search-end
 
 pub search-records-spec : {M : Type 1} → statement M
 search-records-spec =

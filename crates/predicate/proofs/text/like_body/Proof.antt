@@ -5,125 +5,90 @@ use Rattle.predicate.proofs.Liking as law
 use borrow.Author.Needs.{needs}
 use Rattle.predicate.proofs.text.like_body.Statement.{statement}
 use Rattle.predicate.proofs.text.like_body.Tie as tie
-use Rattle.predicate.proofs.text.like_body.Reads as reads
-use Rattle.predicate.proofs.text.like_body.Lts as lts
-use Rattle.operand.proofs.pattern_literal.match_character.Reads as match-character-reads
-use Rattle.operand.proofs.pattern_literal.match_utf8.Reads as match-utf8-reads
-use Rattle.predicate.proofs.text.like_nothing.Reads as like-nothing-reads
-use Rattle.predicate.proofs.text.tell_match.Reads as tell-match-reads
-use Rattle.record.proofs.read.number_at.Reads as number-at-reads
 
--- src/text.rt:53:45
 enum-told : tie.Need-enum-told
 enum-told c = search needs
 
--- src/text.rt:53:45
 match-utf8-requires : tie.Need-match-utf8-requires
 match-utf8-requires c κs = search needs
 
--- src/text.rt:53:25
 tell-match-requires : tie.Need-tell-match-requires
-tell-match-requires c κs = let h = law.characters-few _ _ _ _ (@match-utf8 .ensures) in omega arith
+tell-match-requires c κs = let h = law.characters-few _ _ _ _ (c .match-utf8 .ensures) in omega arith
 
--- src/text.rt:54:69
 enum-told-2 : tie.Need-enum-told-2
 enum-told-2 c = search needs
 
--- src/text.rt:54:69
 number-at-requires : tie.Need-number-at-requires
 number-at-requires c κs = search needs
 
--- src/text.rt:54:69
 cast-match-character : tie.Need-cast-match-character
-cast-match-character c = omega (arith, @number-at .ensures, number-below (@args .body .now) 0 (λ (i : ℕ). @shared-slice-known2 .given i .fits))
+cast-match-character c = omega (arith, c .number-at .ensures, number-below (c .before .before .before .before .before .args .body .now) 0 (λ (i : ℕ). c .before .before .before .shared-slice-known2 .given i .fits))
 
--- src/text.rt:54:47
 match-character-requires : tie.Need-match-character-requires
 match-character-requires c κs = search needs
 
--- src/text.rt:54:27
 tell-match-requires-2 : tie.Need-tell-match-requires-2
-tell-match-requires-2 c κs = let h = law.character-one _ _ _ _ (@match-character .ensures) in omega arith
+tell-match-requires-2 c κs = let h = law.character-one _ _ _ _ (c .match-character .ensures) in omega arith
 
--- src/text.rt:55:28
 enum-told-3 : tie.Need-enum-told-3
 enum-told-3 c = search needs
 
--- src/text.rt:55:28
 like-nothing-requires : tie.Need-like-nothing-requires
 like-nothing-requires c κs = search needs
 
--- src/text.rt:56:28
 enum-told-4 : tie.Need-enum-told-4
 enum-told-4 c = search needs
 
--- src/text.rt:56:28
 like-nothing-requires-2 : tie.Need-like-nothing-requires-2
 like-nothing-requires-2 c κs = search needs
 
--- src/text.rt:57:25
 enum-told-5 : tie.Need-enum-told-5
 enum-told-5 c = search needs
 
--- src/text.rt:57:25
 like-nothing-requires-3 : tie.Need-like-nothing-requires-3
 like-nothing-requires-3 c κs = search needs
 
--- src/text.rt:58:27
 enum-told-6 : tie.Need-enum-told-6
 enum-told-6 c = search needs
 
--- src/text.rt:58:27
 like-nothing-requires-4 : tie.Need-like-nothing-requires-4
 like-nothing-requires-4 c κs = search needs
 
--- src/text.rt:59:29
 enum-told-7 : tie.Need-enum-told-7
 enum-told-7 c = search needs
 
--- src/text.rt:59:29
 like-nothing-requires-5 : tie.Need-like-nothing-requires-5
 like-nothing-requires-5 c κs = search needs
 
--- src/text.rt:60:30
 enum-told-8 : tie.Need-enum-told-8
 enum-told-8 c = search needs
 
--- src/text.rt:60:30
 like-nothing-requires-6 : tie.Need-like-nothing-requires-6
 like-nothing-requires-6 c κs = search needs
 
--- src/text.rt:48:1
 returns : tie.Need-returns
 returns c = search law.like-utf8
 
--- src/text.rt:48:1
 returns-2 : tie.Need-returns-2
 returns-2 c = search law.like-char16
 
--- src/text.rt:48:1
 returns-3 : tie.Need-returns-3
-returns-3 c = search law.like-boolean
+returns-3 c = search law.like-other
 
--- src/text.rt:48:1
 returns-4 : tie.Need-returns-4
-returns-4 c = search law.like-integer
+returns-4 c = search law.like-other
 
--- src/text.rt:48:1
 returns-5 : tie.Need-returns-5
-returns-5 c = search law.like-real
+returns-5 c = search law.like-other
 
--- src/text.rt:48:1
 returns-6 : tie.Need-returns-6
-returns-6 c = search law.like-octets
+returns-6 c = search law.like-other
 
--- src/text.rt:48:1
 returns-7 : tie.Need-returns-7
-returns-7 c = search law.like-datetime
+returns-7 c = search law.like-other
 
--- src/text.rt:48:1
 returns-8 : tie.Need-returns-8
-returns-8 c = search law.like-reference
+returns-8 c = search law.like-other
 
 pub like-body-spec : {M : Type 1} → statement M
 like-body-spec =

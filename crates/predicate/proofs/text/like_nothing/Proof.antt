@@ -1,11 +1,7 @@
-use borrow.Author.Needs.{needs}
 use Rattle.predicate.proofs.Liking as law
 use Rattle.predicate.proofs.text.like_nothing.Statement.{statement}
 use Rattle.predicate.proofs.text.like_nothing.Tie as tie
-use Rattle.predicate.proofs.text.like_nothing.Reads as reads
-use Rattle.predicate.proofs.text.like_nothing.Lts as lts
 
--- src/text.rt:38:1
 returns : tie.Need-returns
 returns c = search law.nothing-told
 

@@ -1,0 +1,43 @@
+use Rattle.filter.proofs.Laws as law
+use borrow.Author.Needs.{needs}
+use Rattle.filter.proofs.check.check.Statement.{statement}
+use Rattle.filter.proofs.check.check.Tie as tie
+use Rattle.filter.proofs.check.check.Reads as reads
+use Rattle.filter.proofs.check.check.Lts as lts
+use Rattle.filter.proofs.check.check_under.Reads as check-under-reads
+use Rattle.table.proofs.validate.read_table.Reads as read-table-reads
+
+-- src/check.rt:93:11
+read-table-requires : tie.Need-read-table-requires
+read-table-requires c κs = search needs
+
+-- src/check.rt:94:31
+enum-known-cause : tie.Need-enum-known-cause
+enum-known-cause c = search needs
+
+-- src/check.rt:98:44
+enum-told : tie.Need-enum-told
+enum-told c = search needs
+
+-- src/check.rt:98:44
+check-under-requires : tie.Need-check-under-requires
+check-under-requires c κs = search needs
+
+-- src/check.rt:90:1
+returns : tie.Need-returns
+returns c = search law.table-refused
+
+-- src/check.rt:90:1
+returns-2 : tie.Need-returns-2
+returns-2 c = search law.table-taken
+
+pub check-spec : {M : Type 1} → statement M
+check-spec =
+    tie.close
+    (tie.spec
+    read-table-requires
+    enum-known-cause
+    enum-told
+    check-under-requires
+    returns
+    returns-2)

@@ -1,0 +1,23 @@
+use Rattle.filter.proofs.Laws as law
+use borrow.Author.Needs.{needs}
+use Rattle.filter.proofs.check.check_comparisons.Statement.{statement}
+use Rattle.filter.proofs.check.check_comparisons.Tie as tie
+use Rattle.filter.proofs.check.check_comparisons.Reads as reads
+use Rattle.filter.proofs.check.check_comparisons.Lts as lts
+use Rattle.filter.proofs.check.check_from.Reads as check-from-reads
+use Rattle.syntax.proofs.query.open_query.Reads as open-query-reads
+
+-- src/check.rt:69:9
+open-query-requires : tie.Need-open-query-requires
+open-query-requires c κs = search needs
+
+-- src/check.rt:71:5
+check-from-requires : tie.Need-check-from-requires
+check-from-requires c κs = search law.begins-taken
+
+-- src/check.rt:65:1
+returns : tie.Need-returns
+returns c = search law.begins-checked
+
+pub check-comparisons-spec : {M : Type 1} → statement M
+check-comparisons-spec = tie.close (tie.spec open-query-requires check-from-requires returns)

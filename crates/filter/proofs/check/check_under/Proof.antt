@@ -1,0 +1,43 @@
+use Rattle.filter.proofs.Laws as law
+use borrow.Author.Needs.{needs}
+use Rattle.filter.proofs.check.check_under.Statement.{statement}
+use Rattle.filter.proofs.check.check_under.Tie as tie
+use Rattle.filter.proofs.check.check_under.Reads as reads
+use Rattle.filter.proofs.check.check_under.Lts as lts
+use Rattle.filter.proofs.check.check_comparisons.Reads as check-comparisons-reads
+use Rattle.syntax.proofs.text.check_text.Reads as check-text-reads
+
+-- src/check.rt:77:11
+check-text-requires : tie.Need-check-text-requires
+check-text-requires c κs = search needs
+
+-- src/check.rt:78:26
+enum-known-f : tie.Need-enum-known-f
+enum-known-f c = search needs
+
+-- src/check.rt:85:32
+enum-told : tie.Need-enum-told
+enum-told c = search needs
+
+-- src/check.rt:85:32
+check-comparisons-requires : tie.Need-check-comparisons-requires
+check-comparisons-requires c κs = search law.taken-query
+
+-- src/check.rt:74:1
+returns : tie.Need-returns
+returns c = search law.text-refused
+
+-- src/check.rt:74:1
+returns-2 : tie.Need-returns-2
+returns-2 c = search law.text-taken
+
+pub check-under-spec : {M : Type 1} → statement M
+check-under-spec =
+    tie.close
+    (tie.spec
+    check-text-requires
+    enum-known-f
+    enum-told
+    check-comparisons-requires
+    returns
+    returns-2)

@@ -1,0 +1,17 @@
+use borrow.Author.Needs.{needs}
+use Rattle.filter.proofs.Laws as law
+use Rattle.filter.proofs.evaluate.answer_of.Statement.{statement}
+use Rattle.filter.proofs.evaluate.answer_of.Tie as tie
+use Rattle.filter.proofs.evaluate.answer_of.Reads as reads
+use Rattle.filter.proofs.evaluate.answer_of.Lts as lts
+
+-- src/evaluate.rt:102:9
+returns : tie.Need-returns
+returns c = search law.answer-true
+
+-- src/evaluate.rt:98:1
+returns-2 : tie.Need-returns-2
+returns-2 c = search law.answer-false
+
+pub answer-of-spec : {M : Type 1} → statement M
+answer-of-spec = tie.close (tie.spec returns returns-2)

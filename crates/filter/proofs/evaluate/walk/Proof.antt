@@ -1,0 +1,23 @@
+use Rattle.short_circuit.proofs.Loop.{walk-called}
+use borrow.Author.Needs.{needs}
+use Rattle.filter.proofs.evaluate.walk.Statement.{statement}
+use Rattle.filter.proofs.evaluate.walk.Tie as tie
+use Rattle.filter.proofs.evaluate.walk.Reads as reads
+use Rattle.filter.proofs.evaluate.walk.Lts as lts
+use Rattle.filter.proofs.evaluate.walk_from.Reads as walk-from-reads
+use Rattle.syntax.proofs.query.open_query.Reads as open-query-reads
+
+-- src/evaluate.rt:93:9
+open-query-requires : tie.Need-open-query-requires
+open-query-requires c κs = search needs
+
+-- src/evaluate.rt:95:5
+walk-from-requires : tie.Need-walk-from-requires
+walk-from-requires c κs = search needs
+
+-- src/evaluate.rt:89:1
+returns : tie.Need-returns
+returns c = search walk-called
+
+pub walk-spec : {M : Type 1} → statement M
+walk-spec = tie.close (tie.spec open-query-requires walk-from-requires returns)

@@ -1,0 +1,49 @@
+use Rattle.judge.proofs.Judging as law
+use borrow.Author.Needs.{needs}
+use Rattle.judge.proofs.judge.Statement.{statement}
+use Rattle.judge.proofs.judge.Tie as tie
+use Rattle.judge.proofs.judge.Reads as reads
+use Rattle.judge.proofs.judge.Lts as lts
+use Rattle.instance.proofs.start.start_of.Reads as start-of-reads
+use Rattle.judge.proofs.judge_kind.Reads as judge-kind-reads
+use Rattle.operand.proofs.name.find_named.Reads as find-named-reads
+
+-- src/lib.rt:109:11
+find-named-requires : tie.Need-find-named-requires
+find-named-requires c κs = search needs
+
+-- src/lib.rt:110:40
+enum-told : tie.Need-enum-told
+enum-told c = search needs
+
+-- src/lib.rt:111:27
+enum-known-number : tie.Need-enum-known-number
+enum-known-number c = search needs
+
+-- src/lib.rt:111:74
+start-of-requires : tie.Need-start-of-requires
+start-of-requires c κs = search needs
+
+-- src/lib.rt:111:45
+judge-kind-requires : tie.Need-judge-kind-requires
+judge-kind-requires c κs = search needs
+
+-- src/lib.rt:103:1
+returns : tie.Need-returns
+returns c = search law.left-absent
+
+-- src/lib.rt:103:1
+returns-2 : tie.Need-returns-2
+returns-2 c = search law.left-found
+
+pub judge-spec : {M : Type 1} → statement M
+judge-spec =
+    tie.close
+    (tie.spec
+    find-named-requires
+    enum-told
+    enum-known-number
+    start-of-requires
+    judge-kind-requires
+    returns
+    returns-2)

@@ -1,0 +1,27 @@
+use Rattle.judge.proofs.Meeting as law
+use borrow.Author.Needs.{needs}
+use Rattle.judge.proofs.meet.is_ordered.Statement.{statement}
+use Rattle.judge.proofs.meet.is_ordered.Tie as tie
+use Rattle.judge.proofs.meet.is_ordered.Reads as reads
+use Rattle.judge.proofs.meet.is_ordered.Lts as lts
+use Rattle.record.proofs.kind.same_row.Reads as same-row-reads
+
+-- src/meet.rt:44:5
+same-row-requires : tie.Need-same-row-requires
+same-row-requires c κs = search needs
+
+-- src/meet.rt:44:37
+same-row-requires-2 : tie.Need-same-row-requires-2
+same-row-requires-2 c κs = search needs
+
+-- src/meet.rt:44:65
+same-row-requires-3 : tie.Need-same-row-requires-3
+same-row-requires-3 c κs = search needs
+
+-- src/meet.rt:41:1
+returns : tie.Need-returns
+returns c = search law.ordered-by
+
+pub is-ordered-spec : {M : Type 1} → statement M
+is-ordered-spec =
+    tie.close (tie.spec same-row-requires same-row-requires-2 same-row-requires-3 returns)

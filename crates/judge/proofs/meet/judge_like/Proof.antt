@@ -1,0 +1,59 @@
+use Rattle.judge.proofs.Meeting as law
+use borrow.Author.Needs.{needs}
+use Rattle.judge.proofs.meet.judge_like.Statement.{statement}
+use Rattle.judge.proofs.meet.judge_like.Tie as tie
+use Rattle.judge.proofs.meet.judge_like.Reads as reads
+use Rattle.judge.proofs.meet.judge_like.Lts as lts
+use Rattle.operand.proofs.pattern_literal.is_pattern.Reads as is-pattern-reads
+use Rattle.predicate.proofs.text.like.Reads as like-reads
+use Rattle.record.proofs.kind.same_row.Reads as same-row-reads
+
+-- src/meet.rt:134:9
+same-row-requires : tie.Need-same-row-requires
+same-row-requires c κs = search needs
+
+-- src/meet.rt:135:9
+returns : tie.Need-returns
+returns c = search law.like-row
+
+-- src/meet.rt:138:28
+enum-known-x : tie.Need-enum-known-x
+enum-known-x c = search needs
+
+-- src/meet.rt:139:22
+enum-known-x-2 : tie.Need-enum-known-x-2
+enum-known-x-2 c = search needs
+
+-- src/meet.rt:140:17
+is-pattern-requires : tie.Need-is-pattern-requires
+is-pattern-requires c κs = search needs
+
+-- src/meet.rt:141:17
+returns-2 : tie.Need-returns-2
+returns-2 c = search law.like-malformed
+
+-- src/meet.rt:143:27
+like-requires : tie.Need-like-requires
+like-requires c κs = search needs
+
+-- src/meet.rt:122:1
+returns-3 : tie.Need-returns-3
+returns-3 c = search law.like-index
+
+-- src/meet.rt:122:1
+returns-4 : tie.Need-returns-4
+returns-4 c = search law.like-told
+
+pub judge-like-spec : {M : Type 1} → statement M
+judge-like-spec =
+    tie.close
+    (tie.spec
+    same-row-requires
+    returns
+    enum-known-x
+    enum-known-x-2
+    is-pattern-requires
+    returns-2
+    like-requires
+    returns-3
+    returns-4)

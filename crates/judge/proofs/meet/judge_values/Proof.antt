@@ -1,0 +1,37 @@
+use Rattle.judge.proofs.Meeting as law
+use borrow.Author.Needs.{needs}
+use Rattle.judge.proofs.meet.judge_values.Statement.{statement}
+use Rattle.judge.proofs.meet.judge_values.Tie as tie
+use Rattle.judge.proofs.meet.judge_values.Reads as reads
+use Rattle.judge.proofs.meet.judge_values.Lts as lts
+use Rattle.judge.proofs.meet.settle.Reads as settle-reads
+use Rattle.judge.proofs.meet.tell_values.Reads as tell-values-reads
+
+-- src/meet.rt:115:11
+settle-requires : tie.Need-settle-requires
+settle-requires c κs = search needs
+
+-- src/meet.rt:116:24
+enum-known-c : tie.Need-enum-known-c
+enum-known-c c = search needs
+
+-- src/meet.rt:117:24
+enum-known-s : tie.Need-enum-known-s
+enum-known-s c = search needs
+
+-- src/meet.rt:117:33
+tell-values-requires : tie.Need-tell-values-requires
+tell-values-requires c κs = search needs
+
+-- src/meet.rt:103:1
+returns : tie.Need-returns
+returns c = search law.values-fail
+
+-- src/meet.rt:103:1
+returns-2 : tie.Need-returns-2
+returns-2 c = search law.values-ready
+
+pub judge-values-spec : {M : Type 1} → statement M
+judge-values-spec =
+    tie.close
+    (tie.spec settle-requires enum-known-c enum-known-s tell-values-requires returns returns-2)

@@ -1,0 +1,67 @@
+use Rattle.judge.proofs.Meeting as law
+use borrow.Author.Needs.{needs}
+use Rattle.judge.proofs.property.meet_array.Statement.{statement}
+use Rattle.judge.proofs.property.meet_array.Tie as tie
+use Rattle.judge.proofs.property.meet_array.Reads as reads
+use Rattle.judge.proofs.property.meet_array.Lts as lts
+use Rattle.judge.proofs.left.read_indexed.Reads as read-indexed-reads
+use Rattle.judge.proofs.meet.meet_body.Reads as meet-body-reads
+use Rattle.judge.proofs.meet.meet_one.Reads as meet-one-reads
+use Rattle.judge.proofs.right.value_of_row.Reads as value-of-row-reads
+use Rattle.predicate.proofs.place.body_at.Reads as body-at-reads
+use Rattle.record.proofs.kind.same_row.Reads as same-row-reads
+
+-- src/property.rt:79:9
+same-row-requires : tie.Need-same-row-requires
+same-row-requires c κs = search needs
+
+-- src/property.rt:80:9
+body-at-requires : tie.Need-body-at-requires
+body-at-requires c κs = search needs
+
+-- src/property.rt:82:25
+enum-told : tie.Need-enum-told
+enum-told c = search needs
+
+-- src/property.rt:82:25
+meet-body-requires : tie.Need-meet-body-requires
+meet-body-requires c κs = search needs
+
+-- src/property.rt:83:19
+enum-known-index : tie.Need-enum-known-index
+enum-known-index c = search needs
+
+-- src/property.rt:84:52
+read-indexed-requires : tie.Need-read-indexed-requires
+read-indexed-requires c κs = search needs
+
+-- src/property.rt:84:17
+value-of-row-requires : tie.Need-value-of-row-requires
+value-of-row-requires c κs = search needs
+
+-- src/property.rt:85:13
+meet-one-requires : tie.Need-meet-one-requires
+meet-one-requires c κs = search needs
+
+-- src/property.rt:64:1
+returns : tie.Need-returns
+returns c = search law.right-whole
+
+-- src/property.rt:64:1
+returns-2 : tie.Need-returns-2
+returns-2 c = search law.right-element
+
+pub meet-array-spec : {M : Type 1} → statement M
+meet-array-spec =
+    tie.close
+    (tie.spec
+    same-row-requires
+    body-at-requires
+    enum-told
+    meet-body-requires
+    enum-known-index
+    read-indexed-requires
+    value-of-row-requires
+    meet-one-requires
+    returns
+    returns-2)

@@ -1,0 +1,49 @@
+use Rattle.judge.proofs.Meeting as law
+use borrow.Author.Needs.{needs}
+use Rattle.judge.proofs.property.meet_scalar.Statement.{statement}
+use Rattle.judge.proofs.property.meet_scalar.Tie as tie
+use Rattle.judge.proofs.property.meet_scalar.Reads as reads
+use Rattle.judge.proofs.property.meet_scalar.Lts as lts
+use Rattle.judge.proofs.meet.meet_one.Reads as meet-one-reads
+use Rattle.judge.proofs.right.value_of_row.Reads as value-of-row-reads
+use Rattle.record.proofs.kind.same_row.Reads as same-row-reads
+
+-- src/property.rt:53:25
+enum-told : tie.Need-enum-told
+enum-told c = search needs
+
+-- src/property.rt:56:34
+same-row-requires : tie.Need-same-row-requires
+same-row-requires c κs = search needs
+
+-- src/property.rt:56:17
+value-of-row-requires : tie.Need-value-of-row-requires
+value-of-row-requires c κs = search needs
+
+-- src/property.rt:57:13
+meet-one-requires : tie.Need-meet-one-requires
+meet-one-requires c κs = search needs
+
+-- src/property.rt:59:39
+enum-told-2 : tie.Need-enum-told-2
+enum-told-2 c = search needs
+
+-- src/property.rt:35:1
+returns : tie.Need-returns
+returns c = search law.right-one
+
+-- src/property.rt:35:1
+returns-2 : tie.Need-returns-2
+returns-2 c = search law.right-indexed
+
+pub meet-scalar-spec : {M : Type 1} → statement M
+meet-scalar-spec =
+    tie.close
+    (tie.spec
+    enum-told
+    same-row-requires
+    value-of-row-requires
+    meet-one-requires
+    enum-told-2
+    returns
+    returns-2)

@@ -1,0 +1,78 @@
+use borrow.Author.Needs.{needs}
+use Rattle.judge.proofs.Sides as law
+use Rattle.operand.specs.Element.{elementsFrom, elementTokens}
+use Rattle.judge.specs.Meaning.{elements}
+use Rattle.judge.specs.Answers.{listRead, listBefore}
+use mathlib.Core.Path.{_≡_}
+use Rattle.judge.proofs.right.check_elements.Statement.{statement}
+use Rattle.judge.proofs.right.check_elements.Tie as tie
+use Rattle.judge.proofs.right.check_elements.Reads as reads
+use Rattle.judge.proofs.right.check_elements.Lts as lts
+use Rattle.judge.proofs.right.before.Reads as before-reads
+use Rattle.judge.proofs.right.list_of.Reads as list-of-reads
+use Rattle.judge.proofs.right.literal_at.Reads as literal-at-reads
+use Rattle.operand.proofs.element.first_element.Reads as first-element-reads
+use Rattle.operand.proofs.element.next_element.Reads as next-element-reads
+
+abbrev Inv-loop : tie.InvT-loop
+Inv-loop family q start count t₀ left₀ seen₀ t left seen = listRead (elements family q (elementTokens q start count)) ≡ listBefore seen (listRead (elements family q (elementsFrom q t left)))
+
+abbrev μ-loop : tie.MeasureT-loop
+μ-loop family q start count t₀ left₀ seen₀ t left seen = left
+
+-- src/right.rt:108:9
+first-element-requires : tie.Need-first-element-requires Inv-loop μ-loop
+first-element-requires c κs = search needs
+
+-- src/right.rt:111:5
+loop-holds : tie.Need-loop-holds Inv-loop μ-loop
+loop-holds c = search law.elements-begin
+
+-- src/right.rt:112:37
+literal-at-requires : tie.Need-literal-at-requires Inv-loop μ-loop
+literal-at-requires c κs = search needs
+
+-- src/right.rt:112:29
+list-of-requires : tie.Need-list-of-requires Inv-loop μ-loop
+list-of-requires c κs = search needs
+
+-- src/right.rt:112:9
+before-requires : tie.Need-before-requires Inv-loop μ-loop
+before-requires c κs = search needs
+
+-- src/right.rt:113:9
+next-element-requires : tie.Need-next-element-requires Inv-loop μ-loop
+next-element-requires c κs = search needs
+
+-- src/right.rt:114:9
+sub-left : tie.Need-sub-left Inv-loop μ-loop
+sub-left c = search needs
+
+-- src/right.rt:111:5
+loop-less : tie.Need-loop-less Inv-loop μ-loop
+loop-less c = search needs
+
+-- src/right.rt:111:5
+loop-again : tie.Need-loop-again Inv-loop μ-loop
+loop-again c = search law.elements-next
+
+-- src/right.rt:105:1
+returns : tie.Need-returns Inv-loop μ-loop
+returns c = search law.elements-end
+
+pub check-elements-spec : {M : Type 1} → statement M
+check-elements-spec =
+    tie.close
+    (tie.spec
+    Inv-loop
+    μ-loop
+    first-element-requires
+    loop-holds
+    literal-at-requires
+    list-of-requires
+    before-requires
+    next-element-requires
+    sub-left
+    loop-less
+    loop-again
+    returns)

@@ -1,0 +1,63 @@
+use Rattle.judge.proofs.Sides as law
+use borrow.Author.Needs.{needs}
+use Rattle.judge.proofs.right.literal_at.Statement.{statement}
+use Rattle.judge.proofs.right.literal_at.Tie as tie
+use Rattle.judge.proofs.right.literal_at.Reads as reads
+use Rattle.judge.proofs.right.literal_at.Lts as lts
+use Rattle.judge.proofs.right.in_query.Reads as in-query-reads
+use Rattle.operand.proofs.literal_read.read_literal.Reads as read-literal-reads
+
+-- src/right.rt:50:11
+read-literal-requires : tie.Need-read-literal-requires
+read-literal-requires c κs = search needs
+
+-- src/right.rt:51:32
+enum-told : tie.Need-enum-told
+enum-told c = search needs
+
+-- src/right.rt:52:53
+enum-told-2 : tie.Need-enum-told-2
+enum-told-2 c = search needs
+
+-- src/right.rt:53:52
+enum-told-3 : tie.Need-enum-told-3
+enum-told-3 c = search needs
+
+-- src/right.rt:54:28
+enum-known-x : tie.Need-enum-known-x
+enum-known-x c = search needs
+
+-- src/right.rt:54:50
+in-query-requires : tie.Need-in-query-requires
+in-query-requires c κs = search needs
+
+-- src/right.rt:47:1
+returns : tie.Need-returns
+returns c = search law.literal-unlike
+
+-- src/right.rt:47:1
+returns-2 : tie.Need-returns-2
+returns-2 c = search law.literal-range
+
+-- src/right.rt:47:1
+returns-3 : tie.Need-returns-3
+returns-3 c = search law.literal-malformed
+
+-- src/right.rt:47:1
+returns-4 : tie.Need-returns-4
+returns-4 c = search law.literal-value
+
+pub literal-at-spec : {M : Type 1} → statement M
+literal-at-spec =
+    tie.close
+    (tie.spec
+    read-literal-requires
+    enum-told
+    enum-told-2
+    enum-told-3
+    enum-known-x
+    in-query-requires
+    returns
+    returns-2
+    returns-3
+    returns-4)

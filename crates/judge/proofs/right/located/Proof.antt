@@ -1,0 +1,23 @@
+use Rattle.judge.proofs.Sides as law
+use borrow.Author.Needs.{needs}
+use Rattle.judge.proofs.right.located.Statement.{statement}
+use Rattle.judge.proofs.right.located.Tie as tie
+use Rattle.judge.proofs.right.located.Reads as reads
+use Rattle.judge.proofs.right.located.Lts as lts
+use Rattle.predicate.proofs.place.bytes_of.Reads as bytes-of-reads
+use Rattle.value.proofs.read.item_at.Reads as item-at-reads
+
+-- src/right.rt:63:24
+bytes-of-requires : tie.Need-bytes-of-requires
+bytes-of-requires c κs = search needs
+
+-- src/right.rt:63:9
+item-at-requires : tie.Need-item-at-requires
+item-at-requires c κs = search needs
+
+-- src/right.rt:59:1
+returns : tie.Need-returns
+returns c = search law.record-located
+
+pub located-spec : {M : Type 1} → statement M
+located-spec = tie.close (tie.spec bytes-of-requires item-at-requires returns)
