@@ -54,15 +54,85 @@ use Rattle.predicate.specs.Test as test
 use Rattle.predicate.specs.Test.{Test, values, arrays, search, like}
 use Rattle.judge.specs.Meaning as meaning
 use Rattle.judge.specs.Meaning.{
-  Read, unlike, faulty, value, indexedBy, indexed, Left, misshapen, leftScalar, leftArray, Right, unindexable, literalAt, literal, before, elements, notNull, ofRow,
-  rightScalar, rightArray, rightKind, rightProperty, patternBy, rightOf, Meant, fails, means, both, ordered, suits, operatorOf, isNegated, likeText, meet, meantBy, meantAs, asScalar, asArray
+  Read,
+  unlike,
+  faulty,
+  value,
+  indexedBy,
+  indexed,
+  Left,
+  misshapen,
+  leftScalar,
+  leftArray,
+  Right,
+  unindexable,
+  literalAt,
+  literal,
+  before,
+  elements,
+  notNull,
+  ofRow,
+  rightScalar,
+  rightArray,
+  rightKind,
+  rightProperty,
+  patternBy,
+  rightOf,
+  Meant,
+  fails,
+  means,
+  both,
+  ordered,
+  suits,
+  operatorOf,
+  isNegated,
+  likeText,
+  meet,
+  meantBy,
+  meantAs,
+  asScalar,
+  asArray,
 }
 use Rattle.judge.specs.Environment.{entryFound, entryNamed}
 use Rattle.filter.specs.Check as check
 use Rattle.filter.specs.Check.{
-  Verdict, passes, breaks, first, demand, eachToken, kindFound, kindNamed, checkName, checkRightName, isArray, Shape, shapeOf, leftShape, rightShape, beside, isFitting, allFit,
-  rowIs, rowFits, hasOrder, isOne, orderFits, orders, checkRead, checkIndex, checkLeftIndex, rangeOf, checkRange, checkRanges, checkPattern, datetimeOf, checkDatetime, checkDatetimes,
-  familyOf, checkKind, checkComparison
+  Verdict,
+  passes,
+  breaks,
+  first,
+  demand,
+  eachToken,
+  kindFound,
+  kindNamed,
+  checkName,
+  checkRightName,
+  isArray,
+  Shape,
+  shapeOf,
+  leftShape,
+  rightShape,
+  beside,
+  isFitting,
+  allFit,
+  rowIs,
+  rowFits,
+  hasOrder,
+  isOne,
+  orderFits,
+  orders,
+  checkRead,
+  checkIndex,
+  checkLeftIndex,
+  rangeOf,
+  checkRange,
+  checkRanges,
+  checkPattern,
+  datetimeOf,
+  checkDatetime,
+  checkDatetimes,
+  familyOf,
+  checkKind,
+  checkComparison,
 }
 
 abbrev pub Agrees : Verdict → Meant → Type 0
@@ -306,7 +376,7 @@ pattern-fits p (some r) = good
 
 right-fits : (f : Family) (q t i : List ℕ) (r : RightSide)
     → RightFits f (checkRightName q t r) (rightShape q t r) (rowFits q t f r) (orderFits q t f r) (first (checkRanges f q r) (first (checkPattern q r) (checkDatetimes f q r)))
-      (rightOf f q (entryNamed q t i) r)
+    (rightOf f q (entryNamed q t i) r)
 unfolding checkRightName rightShape rowFits orderFits checkRanges checkPattern checkDatetimes rightOf ordered
 right-fits f q t i (Literal x) = one (literal-fits (x .start) (readLiteral f q x))
 right-fits f q t i (Elements start count end) = whole (not-null _ _ _ (elements-fit f q (elementTokens q start count)))

@@ -102,12 +102,14 @@ module _ (q t i : List ℕ) (accepted : check q t ≡ checked.Accepted) where
   pub instance-refusals : InstanceRefusals q t i
   instance-refusals =
       record {
-        too-long =
-          (λ e. long-exactly t i .0 (answer-long (truthCall q t i (callOf q t)) (steps q t i) (conformity t i) (sym comes-to ∙ e)),
-          λ h. comes-to ∙ ap (λ (k : Conformity). answerIf k (truthCall q t i (callOf q t)) (steps q t i)) (long-place t i h));
-        nonconforming =
-          (λ w. wrong-exactly t i (accepted-free q t accepted) .0 (refused-wrong w),
-          λ h. wrong-refused (wrong-exactly t i (accepted-free q t accepted) .1 h))
+        too-long = (
+          λ e. long-exactly t i .0 (answer-long (truthCall q t i (callOf q t)) (steps q t i) (conformity t i) (sym comes-to ∙ e)),
+          λ h. comes-to ∙ ap (λ (k : Conformity). answerIf k (truthCall q t i (callOf q t)) (steps q t i)) (long-place t i h),
+        );
+        nonconforming = (
+          λ w. wrong-exactly t i (accepted-free q t accepted) .0 (refused-wrong w),
+          λ h. wrong-refused (wrong-exactly t i (accepted-free q t accepted) .1 h),
+        );
       }
 
   -- its place is that of the first record at fault

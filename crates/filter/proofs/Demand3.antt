@@ -83,5 +83,5 @@ demand3 q t i c =
       answers = accepted-answered q t i k (check q t) (evaluate q t i) (truthCall q t i (callOf q t)) (steps q t i) (tied q t i);
       counts = λ n e. counted q t i k (check q t) (evaluate q t i) (truthCall q t i (callOf q t)) (steps q t i) n (tied q t i) e;
       within = steps-within q t i;
-      refuses = refused-same q t i (check q t) (evaluate q t i) (truthCall q t i (callOf q t)) (steps q t i) (tied q t i)
+      refuses = refused-same q t i (check q t) (evaluate q t i) (truthCall q t i (callOf q t)) (steps q t i) (tied q t i);
     }

@@ -44,8 +44,32 @@ use Rattle.predicate.specs.Place.{bodyAt, bodyValue, asText}
 use Rattle.predicate.proofs.Bounds.{steps-bounded, body-few, text-few, spot-few}
 use Rattle.judge.specs.Meaning as meaning
 use Rattle.judge.specs.Meaning.{
-  Read, unlike, faulty, asScalar, asArray, elementOf, indexedBy, Left, misshapen, leftScalar, leftArray, Right, missing, unindexable, Meant, fails, means, both, suits, operatorOf, isNegated,
-  likeText, meet, rightOf, meantBy, meantAs
+  Read,
+  unlike,
+  faulty,
+  asScalar,
+  asArray,
+  elementOf,
+  indexedBy,
+  Left,
+  misshapen,
+  leftScalar,
+  leftArray,
+  Right,
+  missing,
+  unindexable,
+  Meant,
+  fails,
+  means,
+  both,
+  suits,
+  operatorOf,
+  isNegated,
+  likeText,
+  meet,
+  rightOf,
+  meantBy,
+  meantAs,
 }
 use Rattle.judge.specs.Environment.{entryFound, entryNamed}
 use Rattle.judge.proofs.Sides.{element-start}

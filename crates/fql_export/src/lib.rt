@@ -79,7 +79,11 @@ pub extern "C" fn fql_check<'a>(query: &'a [u8], table: &'a [u8]) -> FqlRefusal
 }
 
 #[no_mangle]
-pub extern "C" fn fql_evaluate<'a>(query: &'a [u8], table: &'a [u8], instance: &'a [u8]) -> FqlAnswer
+pub extern "C" fn fql_evaluate<'a>(
+    query: &'a [u8],
+    table: &'a [u8],
+    instance: &'a [u8],
+) -> FqlAnswer
     ensures { λ r. ⌜ r ≡ answerOf (Evaluate.evaluate (now (query .entry)) (now (table .entry)) (now (instance .entry))) ⌝ }
 {
     answer_of(evaluate(query, table, instance))

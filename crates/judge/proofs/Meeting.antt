@@ -58,7 +58,6 @@ use Rattle.judge.specs.declared.right.ListRead.the-variants as list
 use Rattle.judge.specs.Meaning as meaning
 use Rattle.judge.specs.Meaning.{Read, unlike, faulty, asScalar, asArray, elementOf, indexedBy, indexed, leftScalar, leftArray, literalAt, literal, before, elements, ofRow}
 use Rattle.judge.specs.Answers.{spotRead, leftSeen, itemRead, listRead, listBefore, ElementIn, IndexedIn, ScalarLeft, ArrayLeft, ListOf}
-
 use Rattle.record.specs.Kind.{sameRow}
 use Rattle.record.specs.declared.kind.Family.the-variants as family
 use Rattle.pattern.specs.Regex.{Regex}

@@ -95,7 +95,14 @@ fn settle(start: usize, allowed: bool, x: SpotRead, y: ItemRead) -> Settled
     }
 }
 
-fn tell_values<'a>(op: Operator, q: &'a [u8], i: &'a [u8], of: ValueType, x: Spot, y: Located) -> Judged
+fn tell_values<'a>(
+    op: Operator,
+    q: &'a [u8],
+    i: &'a [u8],
+    of: ValueType,
+    x: Spot,
+    y: Located,
+) -> Judged
     ensures { λ r. ⌜ r ≡ judged (meaning.means (test.values op (spotValue of (now (q .entry)) (now (i .entry)) x) (locatedValue (now (q .entry)) (now (i .entry)) y))) ⌝ }
 {
     Judged::Tells(Told {

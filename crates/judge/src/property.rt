@@ -105,7 +105,10 @@ fn meet_kind<'a>(
     match kind_of(kind) {
         Kind::Unknown => Judged::Fails(Cause::Name, name),
         Kind::Scalar(with) => meet_scalar(a, o, q, i, of, l, index, with, place),
-        Kind::Array { element: _, of: with } => meet_array(a, o, q, i, of, l, index, with, place),
+        Kind::Array {
+            element: _,
+            of: with,
+        } => meet_array(a, o, q, i, of, l, index, with, place),
     }
 }
 

@@ -65,7 +65,13 @@ fn located<'a>(q: &'a [u8], i: &'a [u8], of: ValueType, s: Spot) -> Located
 }
 
 // A property's value, of the row that is asked for or not.
-pub fn value_of_row<'a>(same: bool, q: &'a [u8], i: &'a [u8], of: ValueType, x: SpotRead) -> ItemRead
+pub fn value_of_row<'a>(
+    same: bool,
+    q: &'a [u8],
+    i: &'a [u8],
+    of: ValueType,
+    x: SpotRead,
+) -> ItemRead
     ensures { λ r. ⌜ itemRead (now (q .entry)) (now (i .entry)) r ≡ ofRow same (spotRead of (now (q .entry)) (now (i .entry)) x) ⌝ }
 {
     if !same {

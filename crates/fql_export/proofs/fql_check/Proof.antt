@@ -1,0 +1,23 @@
+use Rattle.fql_export.proofs.Laws as law
+use borrow.Author.Needs.{needs}
+use Rattle.fql_export.proofs.fql_check.Statement.{statement}
+use Rattle.fql_export.proofs.fql_check.Tie as tie
+use Rattle.fql_export.proofs.fql_check.Reads as reads
+use Rattle.fql_export.proofs.fql_check.Lts as lts
+use Rattle.filter.proofs.check.check.Reads as check-reads
+use Rattle.fql_export.proofs.refusal_of.Reads as refusal-of-reads
+
+-- src/lib.rt:78:16
+check-requires : tie.Need-check-requires
+check-requires c κs = search needs
+
+-- src/lib.rt:78:5
+refusal-of-requires : tie.Need-refusal-of-requires
+refusal-of-requires c κs = search needs
+
+-- src/lib.rt:74:1
+returns : tie.Need-returns
+returns c = search law.of-check
+
+pub fql-check-spec : {M : Type 1} → statement M
+fql-check-spec = tie.close (tie.spec check-requires refusal-of-requires returns)

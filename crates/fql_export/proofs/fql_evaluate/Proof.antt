@@ -1,0 +1,23 @@
+use Rattle.fql_export.proofs.Laws as law
+use borrow.Author.Needs.{needs}
+use Rattle.fql_export.proofs.fql_evaluate.Statement.{statement}
+use Rattle.fql_export.proofs.fql_evaluate.Tie as tie
+use Rattle.fql_export.proofs.fql_evaluate.Reads as reads
+use Rattle.fql_export.proofs.fql_evaluate.Lts as lts
+use Rattle.filter.proofs.evaluate.evaluate.Reads as evaluate-reads
+use Rattle.fql_export.proofs.answer_of.Reads as answer-of-reads
+
+-- src/lib.rt:85:15
+evaluate-requires : tie.Need-evaluate-requires
+evaluate-requires c κs = search needs
+
+-- src/lib.rt:85:5
+answer-of-requires : tie.Need-answer-of-requires
+answer-of-requires c κs = search needs
+
+-- src/lib.rt:81:1
+returns : tie.Need-returns
+returns c = search law.of-evaluate
+
+pub fql-evaluate-spec : {M : Type 1} → statement M
+fql-evaluate-spec = tie.close (tie.spec evaluate-requires answer-of-requires returns)
