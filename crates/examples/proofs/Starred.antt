@@ -125,7 +125,7 @@ unfolding
     syntax-tree.front syntax-tree.tree syntax-tree.every syntax-tree.some syntax-tree.holds syntax-tree.total syntax-tree.step syntax-tree.runs
     value-compare.orderOfScalars value-compare.compares
     value-item.listed value-item.itemValue
-    value-read.valueInRecord value-read.elementAt
+    value-read.valueInRecord
     value-unit.hexPairs value-unit.utf8After value-unit.unitsFrom
     value-literal-literal-value.textValue value-literal-literal-value.literalValue
     short-circuit-count.everySteps short-circuit-count.someSteps short-circuit-count.treeSteps short-circuit-count.sumOf

@@ -4,3 +4,4 @@ pub mod Demand3
 pub mod Size
 pub mod Laws
 pub mod Corollaries
+pub mod Paired

@@ -23,7 +23,7 @@ use Rattle.instance.specs.Value.{ScalarValue, scalarIn, elementIn, elements, va
 use Rattle.value.specs.declared.item.Item.{Item}
 use Rattle.value.specs.declared.item.Item.the-variants as it
 use Rattle.value.specs.Item.{itemValue}
-use Rattle.value.specs.Read.{valueIn, valueInRecord, elementAt, asValue}
+use Rattle.value.specs.Read.{valueIn, valueInRecord, asValue}
 
 -- a record's value
 module _ (s : List ℕ) (of : ValueType) (kind start len : ℕ) where
@@ -61,29 +61,6 @@ module _ (s : List ℕ) (w at n : ℕ) (inv : w ≡ n + count (records s at)) (r
   pub count-end : r ≡ End → n ≡ w
   unfolding count
   count-end e = let g : w ≡ n + 0 = inv ∙ rw (records-end s at (sym er ∙ e)) in omega arith
-
--- an element by its index
-later : (x : Option ScalarValue) (xs : List (Option ScalarValue)) (n : ℕ) → (n ≡ 0 → ⊥) → getD (x ∷ xs) n none ≡ getD xs (n - 1) none
-later x xs zero h = absurd (h refl)
-later x xs (suc n) h = ap (λ (k : ℕ). getD xs k none) (let z : n ≡ suc n - 1 = omega arith in z)
-
-module _ (s : List ℕ) (of : ValueType) (w : Option ScalarValue) (at n : ℕ) (inv : w ≡ getD (elements of s (records s at)) n none) (r : RecordAt) (er : r ≡ recordAt s at) where
-  module _ (kind start len next : ℕ) (e : r ≡ Whole kind start len next) where
-    pub element-here : n ≡ 0 → (x : Item) → itemValue s x ≡ elementIn of kind (part s start len) → itemValue s x ≡ w
-    unfolding elements
-    element-here h x f = f ∙ sym (inv ∙ rw (records-whole s at kind start len next (sym er ∙ e), h))
-
-    pub element-later : (n ≡ 0 → ⊥) → w ≡ getD (elements of s (records s next)) (n - 1) none
-    unfolding elements
-    element-later h = inv ∙ rw (records-whole s at kind start len next (sym er ∙ e)) (later (elementIn of kind (part s start len)) (elements of s (records s next)) n h)
-
-  pub element-broken : r ≡ Broken → itemValue s it.Null ≡ w
-  unfolding elements itemValue
-  element-broken e = sym (inv ∙ rw (records-broken s at (sym er ∙ e)))
-
-  pub element-past : r ≡ End → itemValue s it.Null ≡ w
-  unfolding elements itemValue
-  element-past e = sym (inv ∙ rw (records-end s at (sym er ∙ e)))
 
 -- the value of a scalar property is that of its record
 pub scalar-property : (asked : ℕ) (i : List ℕ) (place : ℕ) (t : ValueType) → kindOf asked ≡ Scalar t → valueAt asked i place ≡ asValue (valueInRecord t i place)

@@ -23,7 +23,7 @@ ghost use Rattle.record.specs.Record.{records};
 ghost use Rattle.instance.specs.Value.{wholeIn, realIn, familyValue, elementIn};
 ghost use Rattle.instance.specs.Conforms.{count};
 ghost use Rattle.value.specs.Item.{sequenceOf, itemValue};
-ghost use Rattle.value.specs.Read.{valueInRecord, elementAt};
+ghost use Rattle.value.specs.Read.{valueInRecord};
 
 fn read_whole(signed: bool, s: &[u8]) -> Whole
     ensures { λ r. ⌜ wholeOf r ≡ wholeIn signed (now (s .entry)) ⌝ }
@@ -124,32 +124,6 @@ pub fn count_elements(s: &[u8]) -> usize
             }
             RecordAt::Broken => return n,
             RecordAt::End => return n,
-        }
-    }
-}
-
-// The element of an array's body by its index; NULL past the end.
-pub fn element(s: &[u8], index: usize, of: ValueType) -> Item
-    ensures { λ r. ⌜ itemValue (now (s .entry)) r ≡ elementAt of (now (s .entry)) index ⌝ }
-{
-    let mut at: usize = 0;
-    let mut left = index;
-    loop {
-        match record_at(s, at) {
-            RecordAt::Whole {
-                kind,
-                start,
-                length,
-                next,
-            } => {
-                if left == 0 {
-                    return read_item(s, of, kind, start, length);
-                }
-                left -= 1;
-                at = next;
-            }
-            RecordAt::Broken => return Item::Null,
-            RecordAt::End => return Item::Null,
         }
     }
 }

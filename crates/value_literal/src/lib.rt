@@ -1,10 +1,8 @@
-// Literals of a query as values, and their comparison with an instance's.
+// Literals of a query as values.
 pub mod datetime_text;
 
-use base::order::Operator;
 use literal::Literal;
 use record::kind::Family;
-use value::compare::compare_items;
 use value::item::Item;
 use value::item::Sequence;
 use value::item::Sort;
@@ -13,7 +11,6 @@ ghost use mathlib.Core.Path.{_≡_};
 ghost use mathlib.Core.Option.{some};
 ghost use Prim.Native.Nat.{_-_};
 ghost use lib.ListN.{length};
-ghost use Rattle.value.specs.Compare.{compares};
 ghost use Rattle.value.specs.Unit.{unitsFrom};
 ghost use Rattle.value.specs.Item.{listed, sequenceOf, itemValue};
 ghost use Rattle.instance.specs.Value as value;
@@ -99,18 +96,4 @@ pub fn literal_item(family: Family, q: &[u8], l: Literal) -> Item
         Literal::Octets { start, end } => octets_item(q, start, end),
         Literal::Null => Item::Null,
     }
-}
-
-// Whether the operator holds of the value of `x`, from the slice `a`, and a literal of the query `q` beside it.
-pub fn compare_with_literal<'a>(
-    op: Operator,
-    a: &'a [u8],
-    x: Item,
-    q: &'a [u8],
-    l: Literal,
-    family: Family,
-) -> bool
-    ensures { λ r. ⌜ r ≡ compares op (itemValue (now (a .entry)) x) (literalValue family (now (q .entry)) l) ⌝ }
-{
-    compare_items(op, a, x, q, literal_item(family, q, l))
 }

@@ -7,7 +7,6 @@ use Rattle.record.specs.Record.{records}
 use Rattle.record.proofs.Reach as reach
 use Rattle.instance.specs.Conforms.{count}
 use Rattle.instance.specs.Value.{elements}
-use Rattle.value.specs.Read.{elementAt}
 use native.Mathlib.Omega.{arith}
 use borrow.Author.Needs.{needs}
 use Rattle.value.proofs.read.count_elements.Statement.{statement}
