@@ -6,11 +6,7 @@ use mathlib.Core.List.{List, [], _∷_}
 use mathlib.Core.Logic.{_⊎_, inl, inr}
 use mathlib.Core.Bool.{Bool, true, false, not, _&&_, _||_}
 use mathlib.Core.Option.{Option, none, some}
-use native.Mathlib.Omega.{arith}
-use lib.Dec.{eqb}
-use Rattle.base.specs.Pick.{pick}
 use Rattle.record.specs.Kind.{kindOf, sameRow}
-use Rattle.record.specs.Name.{sameName}
 use Rattle.record.specs.declared.kind.Family.{Family}
 use Rattle.record.specs.declared.kind.Family.the-variants as family
 use Rattle.record.specs.declared.kind.ValueType.{ValueType}
@@ -19,7 +15,6 @@ use Rattle.record.specs.declared.kind.Kind.the-variants.{Unknown, Scalar, Array
 use Rattle.table.specs.declared.lookup.Found.{Found}
 use Rattle.table.specs.declared.lookup.Found.the-variants as found
 use Rattle.table.specs.Table.{isKnown}
-use Rattle.table.specs.Properties.{className, findProperty}
 use Rattle.pattern.specs.Reading.{isSome}
 use Rattle.pattern.specs.Regex.{Regex}
 use Rattle.base.specs.declared.order.Operator.{Operator}
@@ -37,14 +32,12 @@ use Rattle.syntax.specs.declared.left_side.LeftSide.{LeftSide}
 use Rattle.syntax.specs.declared.right_side.RightSide.{RightSide}
 use Rattle.syntax.specs.declared.right_side.RightSide.the-variants.{Literal, Elements, Property, Pattern}
 use Rattle.syntax.specs.declared.comparison.Comparison.{Comparison}
-use Rattle.instance.specs.Value.{ScalarValue, Value, Entry, absent, property, environment, valueAt}
-use Rattle.instance.specs.Start.{startOf}
-use Rattle.instance.proofs.Environment.{entry-found}
+use Rattle.instance.specs.Value.{ScalarValue, Value, Entry, absent, property, environment}
 use Rattle.operand.specs.declared.cause.Cause.{Cause}
 use Rattle.operand.specs.declared.cause.Cause.the-variants as cause
 use Rattle.operand.specs.declared.index.IndexRead.{IndexRead}
 use Rattle.operand.specs.declared.index.IndexRead.the-variants.{Reads, TooLarge}
-use Rattle.operand.specs.Named.{spanned, named}
+use Rattle.operand.specs.Named.{named}
 use Rattle.operand.specs.Index.{indexOf}
 use Rattle.operand.specs.LiteralReading.{LiteralReading, misfit, outOfRange, malformed, reads, readLiteral, isNullLiteral}
 use Rattle.operand.specs.Element.{elementTokens}
@@ -94,6 +87,7 @@ use Rattle.judge.specs.Meaning.{
   asArray,
 }
 use Rattle.judge.specs.Environment.{entryFound, entryNamed}
+use Rattle.judge.proofs.Named.{named-entry}
 use Rattle.filter.specs.Check as check
 use Rattle.filter.specs.Check.{
   Verdict,
@@ -326,29 +320,13 @@ data Seen : Kind → Entry → Type 0 where
   unseen : Seen Unknown absent
   there : {k : ℕ} {v : Value} → Seen (kindOf k) (property k v)
 
-named-entry : (t i : List ℕ) (a b : Bool) (m o : List ℕ) (n k : ℕ) → pick a (findProperty t m) (pick b (findProperty t o) found.Absent) ≡ found.Property n k
-    → environment t i n ≡ property k (valueAt k i (startOf i n))
-named-entry t i true b m o n k e = entry-found t i m n k e
-named-entry t i false true m o n k e = entry-found t i o n k e
-named-entry t i false false m o n k e = absurd (absent-apart e)
-  where
-    absent-apart : found.Absent ≡ found.Property n k → ⊥
-    absent-apart e = let z : _≡_ {A = ℕ} 0 1 = cc in omega arith
-
 seen : (q t i : List ℕ) (p : Path) → Seen (kindNamed q t p) (entryNamed q t i p)
-unfolding entryNamed named
-seen q t i p =
-    go
-    (eqb (p .names) 1)
-    (eqb (p .names) 2 && sameName (className t) (spanned q (p .first)))
-    (pick (eqb (p .names) 1) (findProperty t (spanned q (p .first)))
-    (pick (eqb (p .names) 2 && sameName (className t) (spanned q (p .first))) (findProperty t (spanned q (p .second))) found.Absent))
-    refl
+unfolding entryNamed
+seen q t i p = go (named q t p) refl
   where
-    go : (a b : Bool) (x : Found) → pick a (findProperty t (spanned q (p .first))) (pick b (findProperty t (spanned q (p .second))) found.Absent) ≡ x
-        → Seen (kindFound x) (entryFound (environment t i) x)
-    go a b found.Absent e = unseen
-    go a b (found.Property n k) e = rw (named-entry t i a b (spanned q (p .first)) (spanned q (p .second)) n k e) there
+    go : (x : Found) → named q t p ≡ x → Seen (kindFound x) (entryFound (environment t i) x)
+    go found.Absent e = unseen
+    go (found.Property n k) e = rw (named-entry q t i p n k e) there
 
 module _ (f : Family) (q : List ℕ) (place : ℕ) where
   abbrev PropertyFits : Index → Kind → Right → Type 0

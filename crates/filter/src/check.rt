@@ -87,14 +87,14 @@ fn check_under<'a>(q: &'a [u8], t: &'a [u8]) -> Checked
 }
 
 // Whether the engine accepts a query for a table: the table, the query's text, its comparisons.
-pub fn check<'a>(q: &'a [u8], t: &'a [u8]) -> Checked
-    ensures { λ r. ⌜ r ≡ Check.check (now (q .entry)) (now (t .entry)) ⌝ }
+pub fn check<'a>(query: &'a [u8], table: &'a [u8]) -> Checked
+    ensures { λ r. ⌜ r ≡ Check.check (now (query .entry)) (now (table .entry)) ⌝ }
 {
-    match read_table(t) {
+    match read_table(table) {
         TableReading::Fault { cause, place } => Checked::Refused(Refusal {
             cause: Cause::Table(cause),
             place,
         }),
-        TableReading::Good { count: _ } => check_under(q, t),
+        TableReading::Good { count: _ } => check_under(query, table),
     }
 }

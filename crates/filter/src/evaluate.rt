@@ -105,17 +105,17 @@ fn answer_of(x: Told) -> Answer
 }
 
 // Whether the query includes the instance, and in how many steps.
-pub fn evaluate<'a>(q: &'a [u8], t: &'a [u8], i: &'a [u8]) -> Answer
-    ensures { λ r. ⌜ r ≡ Evaluate.evaluate (now (q .entry)) (now (t .entry)) (now (i .entry)) ⌝ }
+pub fn evaluate<'a>(query: &'a [u8], table: &'a [u8], instance: &'a [u8]) -> Answer
+    ensures { λ r. ⌜ r ≡ Evaluate.evaluate (now (query .entry)) (now (table .entry)) (now (instance .entry)) ⌝ }
 {
-    match check(q, t) {
+    match check(query, table) {
         Checked::Refused(r) => Answer::Refused(r),
-        Checked::Accepted => match check_instance(t, i) {
+        Checked::Accepted => match check_instance(table, instance) {
             Conformity::Fault { cause, place } => Answer::Refused(Refusal {
                 cause: Cause::Instance(cause),
                 place,
             }),
-            Conformity::Conforming => answer_of(walk(q, t, i)),
+            Conformity::Conforming => answer_of(walk(query, table, instance)),
         },
     }
 }
