@@ -47,9 +47,9 @@ use Rattle.literal.specs.Sort as literal-sort
 use Rattle.terminal.specs.Terminal as terminal-terminal
 use Rattle.syntax.specs.Comparison as syntax-comparison
 use Rattle.syntax.specs.Property as syntax-property
-use Rattle.syntax.specs.Query as syntax-query
-use Rattle.syntax.specs.Text as syntax-text
-use Rattle.syntax.specs.Tree as syntax-tree
+use Rattle.query_text.specs.Query as query-text-query
+use Rattle.query_text.specs.Text as query-text-text
+use Rattle.query_text.specs.Tree as query-text-tree
 use Rattle.value.specs.Compare as value-compare
 use Rattle.value.specs.Item as value-item
 use Rattle.value.specs.Read as value-read
@@ -120,9 +120,9 @@ unfolding
     terminal-terminal.same terminal-terminal.word terminal-terminal.literal terminal-terminal.comparing terminal-terminal.joining terminal-terminal.quantifying terminal-terminal.opening terminal-terminal.unsigned
     syntax-comparison.leftOf syntax-comparison.leftBy syntax-comparison.leftAt syntax-comparison.leftSide syntax-comparison.notLike syntax-comparison.like syntax-comparison.operationBy syntax-comparison.operation syntax-comparison.elements syntax-comparison.listFrom syntax-comparison.arrayLiteral syntax-comparison.operandOf syntax-comparison.operand syntax-comparison.pattern syntax-comparison.rightSide syntax-comparison.compOf syntax-comparison.compOperation syntax-comparison.compLeft syntax-comparison.propertyComp
     syntax-property.oneMore syntax-property.dotted syntax-property.property syntax-property.closeIndex syntax-property.indexNumber syntax-property.indexed syntax-property.withIndex syntax-property.withPath syntax-property.reference
-    syntax-query.atEnd syntax-query.openGroup syntax-query.outerBy syntax-query.afterGroup syntax-query.outer syntax-query.joinBy syntax-query.joinAfter syntax-query.nextOf syntax-query.nextBy syntax-query.nextComparison syntax-query.before syntax-query.queryFrom syntax-query.startAt syntax-query.queryStart syntax-query.query syntax-query.verdict
-    syntax-text.encodedVerdict syntax-text.textVerdict
-    syntax-tree.front syntax-tree.tree syntax-tree.every syntax-tree.some syntax-tree.holds syntax-tree.total syntax-tree.step syntax-tree.runs
+    query-text-query.atEnd query-text-query.openGroup query-text-query.outerBy query-text-query.afterGroup query-text-query.outer query-text-query.joinBy query-text-query.joinAfter query-text-query.nextOf query-text-query.nextBy query-text-query.nextComparison query-text-query.before query-text-query.queryFrom query-text-query.startAt query-text-query.queryStart query-text-query.query query-text-query.verdict
+    query-text-text.encodedVerdict query-text-text.textVerdict
+    query-text-tree.front query-text-tree.tree query-text-tree.every query-text-tree.some query-text-tree.holds query-text-tree.total query-text-tree.step query-text-tree.runs
     value-compare.orderOfScalars value-compare.compares
     value-item.listed value-item.itemValue
     value-read.valueInRecord

@@ -23,8 +23,8 @@ use Rattle.instance.proofs.Built.{nulls, nulls-conform, appended-conforms}
 use Rattle.instance.proofs.Environment.{environment-stays}
 use Rattle.syntax.specs.declared.comparison.Comparison.{Comparison}
 use Rattle.syntax.specs.declared.path.Path as path
-use Rattle.syntax.specs.Query.{Comparisons, only, more}
-use Rattle.syntax.specs.Tree.{tree, holds}
+use Rattle.query_text.specs.Query.{Comparisons, only, more}
+use Rattle.query_text.specs.Tree.{tree, holds}
 use Rattle.short_circuit.proofs.Bound.{steps-below}
 use Rattle.operand.specs.Named.{named}
 use Rattle.predicate.proofs.Bounds.{steps-bounded}

@@ -20,18 +20,18 @@ use Rattle.token.specs.declared.Token.{Token}
 use Rattle.terminal.specs.Terminal.{opening}
 use Rattle.syntax.specs.declared.comparison.Comparison.{Comparison}
 use Rattle.syntax.specs.declared.fault.Fault.{Fault}
-use Rattle.syntax.specs.declared.join.Join.{Join}
-use Rattle.syntax.specs.declared.query.NextResult.{NextResult}
-use Rattle.syntax.specs.declared.query.NextResult.the-variants.{HasNext, NoNext}
-use Rattle.syntax.specs.declared.query.QueryStart.{QueryStart}
-use Rattle.syntax.specs.declared.query.Verdict.{Verdict}
-use Rattle.syntax.specs.declared.query.Verdict.the-variants as text-verdict
 use Rattle.syntax.specs.declared.fault.Cause.the-variants.{Length, Encoding}
 use Rattle.syntax.specs.Scan.{scan, fault}
-use Rattle.syntax.specs.Query.{Comparisons, only, more, Query, bad, good, before, lastJoin, nextComparison, queryFrom, queryStart, query, verdict}
-use Rattle.syntax.specs.Text.{textVerdict, encodedVerdict}
-use Rattle.syntax.specs.Tree.{tree, holds}
-use Rattle.syntax.proofs.Laws.{from-out, from-bad, from-last, from-more}
+use Rattle.query_text.specs.declared.join.Join.{Join}
+use Rattle.query_text.specs.declared.query.NextResult.{NextResult}
+use Rattle.query_text.specs.declared.query.NextResult.the-variants.{HasNext, NoNext}
+use Rattle.query_text.specs.declared.query.QueryStart.{QueryStart}
+use Rattle.query_text.specs.declared.query.Verdict.{Verdict}
+use Rattle.query_text.specs.declared.query.Verdict.the-variants as text-verdict
+use Rattle.query_text.specs.Query.{Comparisons, only, more, Query, bad, good, before, lastJoin, nextComparison, queryFrom, queryStart, query, verdict}
+use Rattle.query_text.specs.Text.{textVerdict, encodedVerdict}
+use Rattle.query_text.specs.Tree.{tree, holds}
+use Rattle.query_text.proofs.Laws.{from-out, from-bad, from-last, from-more}
 use Rattle.short_circuit.specs.declared.Told.{Told}
 use Rattle.short_circuit.specs.Count.{treeSteps}
 use Rattle.short_circuit.specs.Walk.{told, initial, stepsIf, walkQuery}

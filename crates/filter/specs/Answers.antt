@@ -3,7 +3,7 @@ use Prim.Native.Nat.{ℕ}
 use mathlib.Core.List.{List}
 use mathlib.Core.Bool.{Bool}
 use Rattle.syntax.specs.declared.comparison.Comparison.{Comparison}
-use Rattle.syntax.specs.Query.{Query, bad, good}
+use Rattle.query_text.specs.Query.{Query, bad, good}
 use Rattle.filter.specs.Check.{checkAll, asChecked}
 use Rattle.filter.specs.Meaning.{truthOf, stepsOf}
 use Rattle.filter.specs.Evaluate.{meantIn}

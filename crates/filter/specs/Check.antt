@@ -25,7 +25,7 @@ use Rattle.syntax.specs.declared.operation.Operation.the-variants.{Compare, Lik
 use Rattle.syntax.specs.declared.right_side.RightSide.{RightSide}
 use Rattle.syntax.specs.declared.right_side.RightSide.the-variants.{Literal, Elements, Property, Pattern}
 use Rattle.syntax.specs.declared.comparison.Comparison.{Comparison}
-use Rattle.syntax.specs.Query.{Comparisons, only, more}
+use Rattle.query_text.specs.Query.{Comparisons, only, more}
 use Rattle.operand.specs.declared.cause.Cause.{Cause}
 use Rattle.operand.specs.declared.cause.Cause.the-variants as cause
 use Rattle.operand.specs.declared.index.IndexRead.{IndexRead}

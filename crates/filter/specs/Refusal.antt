@@ -7,11 +7,11 @@ use Rattle.table.specs.declared.validate.TableReading.{TableReading}
 use Rattle.table.specs.declared.validate.TableReading.the-variants as table-reading
 use Rattle.instance.specs.Fault as instance
 use Rattle.syntax.specs.declared.fault.Fault as text-fault
-use Rattle.syntax.specs.declared.query.Verdict.{Verdict}
-use Rattle.syntax.specs.declared.query.Verdict.the-variants as verdict
-use Rattle.syntax.specs.Text as text
-use Rattle.syntax.specs.Text.{textVerdict}
-use Rattle.syntax.specs.Query.{Comparisons, Query, bad, good, query}
+use Rattle.query_text.specs.declared.query.Verdict.{Verdict}
+use Rattle.query_text.specs.declared.query.Verdict.the-variants as verdict
+use Rattle.query_text.specs.Text as text
+use Rattle.query_text.specs.Text.{textVerdict}
+use Rattle.query_text.specs.Query.{Comparisons, Query, bad, good, query}
 use Rattle.operand.specs.Cause as comparison
 use Rattle.filter.specs.declared.refusal.Cause.{Cause}
 use Rattle.filter.specs.declared.refusal.Cause.the-variants.{Table, Text, Comparison, Instance}

@@ -40,7 +40,7 @@ pub fn number_of(cause: Cause) -> usize
 {
     match cause {
         Cause::Table(c) => table::validate::number_of(c),
-        Cause::Text(c) => syntax::text::number_of(c),
+        Cause::Text(c) => query_text::text::number_of(c),
         Cause::Comparison(c) => operand::cause::number_of(c),
         Cause::Instance(c) => instance::conform::number_of(c),
     }

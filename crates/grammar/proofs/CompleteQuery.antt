@@ -14,17 +14,17 @@ use Rattle.terminal.specs.declared.operator.BoolOp.the-variants as BoolOp
 use Rattle.terminal.specs.Terminal.{same, joining, opening}
 use Rattle.terminal.proofs.KindCodes.{other}
 use Rattle.syntax.specs.declared.comparison.Comparison.{Comparison}
-use Rattle.syntax.specs.declared.join.Join.{Join}
-use Rattle.syntax.specs.declared.join.Join.the-variants.{Last, Inner, Outer}
 use Rattle.syntax.specs.declared.fault.Cause.the-variants.{Limit}
-use Rattle.syntax.specs.declared.join.JoinResult.the-variants.{HasJoin}
 use Rattle.syntax.specs.declared.comparison.ComparisonResult.{ComparisonResult}
 use Rattle.syntax.specs.declared.comparison.ComparisonResult.the-variants.{HasComparison, NoComparison}
-use Rattle.syntax.specs.declared.query.NextResult.the-variants.{HasNext, NoNext}
 use Rattle.syntax.specs.Comparison as GC
-use Rattle.syntax.specs.Query as GQ
 use Rattle.syntax.specs.Scan.{Scan, skip, scan}
-use Rattle.syntax.specs.Query.{Query, bad, good, lastJoin}
+use Rattle.query_text.specs.declared.join.Join.{Join}
+use Rattle.query_text.specs.declared.join.Join.the-variants.{Last, Inner, Outer}
+use Rattle.query_text.specs.declared.join.JoinResult.the-variants.{HasJoin}
+use Rattle.query_text.specs.declared.query.NextResult.the-variants.{HasNext, NoNext}
+use Rattle.query_text.specs.Query as GQ
+use Rattle.query_text.specs.Query.{Query, bad, good, lastJoin}
 use Rattle.grammar.specs.Abnf.{Fits, one, join, left, right, none, just, stop, more, many, then, is, array-op, property, element, bool-op, property-comp, fql-expr, bracketed, fql, Derives}
 use Rattle.grammar.specs.Limits.{repeats, elementsIn, exprCount, groupsCount, comparisonCount, ShortIn, ShortExpr, ShortGroups, Short}
 use Rattle.grammar.proofs.Complete.{Roomy, ReadsComparison, comparison-read}

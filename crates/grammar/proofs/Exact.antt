@@ -7,7 +7,7 @@ use native.Mathlib.Omega.{arith}
 use Rattle.syntax.specs.declared.fault.Cause.{Cause}
 use Rattle.syntax.specs.declared.fault.Cause.the-variants.{Grammar, Limit}
 use Rattle.syntax.specs.Scan.{scan, fault}
-use Rattle.syntax.specs.Query.{Query, Comparisons, bad, good, query}
+use Rattle.query_text.specs.Query.{Query, Comparisons, bad, good, query}
 use Rattle.grammar.specs.Abnf.{Derives}
 use Rattle.grammar.specs.Limits.{comparisonCount, Short, WithinLimits}
 use Rattle.grammar.proofs.SoundQuery.{query-derives}

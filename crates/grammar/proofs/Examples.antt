@@ -16,8 +16,8 @@ use Rattle.token.specs.Token.{isToken, fitted, longer, wordKind, wordToken, num
 use Rattle.terminal.specs.Terminal.{same, word, literal, comparing, joining, quantifying, opening, unsigned}
 use Rattle.syntax.specs.Property.{oneMore, dotted, property, closeIndex, indexNumber, indexed, withIndex, withPath, reference}
 use Rattle.syntax.specs.Comparison.{leftOf, leftBy, leftAt, leftSide, notLike, like, operationBy, operation, elements, listFrom, arrayLiteral, operandOf, operand, pattern, rightSide, compOf, compOperation, compLeft, propertyComp}
-use Rattle.syntax.specs.Query.{atEnd, openGroup, outerBy, afterGroup, outer, joinBy, joinAfter, nextOf, nextBy, nextComparison, before, queryFrom, startAt, queryStart, query, verdict}
-use Rattle.syntax.specs.Text.{encodedVerdict, textVerdict}
+use Rattle.query_text.specs.Query.{atEnd, openGroup, outerBy, afterGroup, outer, joinBy, joinAfter, nextOf, nextBy, nextComparison, before, queryFrom, startAt, queryStart, query, verdict}
+use Rattle.query_text.specs.Text.{encodedVerdict, textVerdict}
 use Rattle.grammar.specs.Examples.{times, answer, answers, accepted, grammarFaults, encodingFaults, comparisonLimit, groupedLimit, elementLimit, lengthLimit}
 
 pub accepted-right : results answer accepted ≡ expected accepted

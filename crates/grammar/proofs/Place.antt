@@ -15,17 +15,17 @@ use Rattle.terminal.specs.declared.operator.Joining.{Joining}
 use Rattle.terminal.specs.declared.operator.Joining.the-variants.{With, NoBoolOp}
 use Rattle.terminal.specs.Terminal.{same, joining, opening}
 use Rattle.syntax.specs.declared.comparison.Comparison.{Comparison}
-use Rattle.syntax.specs.declared.join.Join.{Join}
-use Rattle.syntax.specs.declared.join.Join.the-variants.{Last, Inner, Outer}
-use Rattle.syntax.specs.declared.join.JoinResult.the-variants.{HasJoin, NoJoin}
-use Rattle.syntax.specs.declared.query.NextResult.the-variants.{HasNext, NoNext}
 use Rattle.syntax.specs.declared.fault.Cause.{Cause}
 use Rattle.syntax.specs.declared.fault.Cause.the-variants.{Grammar, Limit}
 use Rattle.syntax.specs.declared.fault.Fault.{Fault}
 use Rattle.syntax.specs.Scan.{scan, fault, limited, skip}
-use Rattle.syntax.specs.Query.{atEnd, openGroup, outerBy, afterGroup, outer, joinBy, joinAfter, nextOf, nextBy, nextComparison, Comparisons, only, more, Query, bad, good, before, lastJoin, queryFrom, startAt, queryStart, query}
+use Rattle.query_text.specs.declared.join.Join.{Join}
+use Rattle.query_text.specs.declared.join.Join.the-variants.{Last, Inner, Outer}
+use Rattle.query_text.specs.declared.join.JoinResult.the-variants.{HasJoin, NoJoin}
+use Rattle.query_text.specs.declared.query.NextResult.the-variants.{HasNext, NoNext}
+use Rattle.query_text.specs.Query.{atEnd, openGroup, outerBy, afterGroup, outer, joinBy, joinAfter, nextOf, nextBy, nextComparison, Comparisons, only, more, Query, bad, good, before, lastJoin, queryFrom, startAt, queryStart, query}
 use Rattle.grammar.specs.Abnf.{Derives}
-use Rattle.syntax.proofs.Laws.{from-out, from-bad, from-last, from-more}
+use Rattle.query_text.proofs.Laws.{from-out, from-bad, from-last, from-more}
 use Rattle.grammar.proofs.Exact.{DerivesWithin, refused-grammar, refused-limit}
 use Rattle.grammar.proofs.Local.{tok, Agree, Local, same-at, joining-at, opening-at, agree-self, local-map, local-then}
 use Rattle.grammar.proofs.LocalComparison.{ComparisonEnd, ComparisonFail, ComparisonLocal, comparison-local}

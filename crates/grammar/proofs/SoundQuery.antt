@@ -16,18 +16,18 @@ use Rattle.terminal.specs.declared.operator.Joining.{Joining}
 use Rattle.terminal.specs.declared.operator.Joining.the-variants.{With, NoBoolOp}
 use Rattle.terminal.specs.Terminal.{same, joining}
 use Rattle.syntax.specs.declared.comparison.Comparison.{Comparison}
-use Rattle.syntax.specs.declared.join.Join.{Join}
-use Rattle.syntax.specs.declared.join.Join.the-variants.{Last, Inner, Outer}
-use Rattle.syntax.specs.declared.join.JoinResult.{JoinResult}
-use Rattle.syntax.specs.declared.join.JoinResult.the-variants.{HasJoin, NoJoin}
 use Rattle.syntax.specs.declared.comparison.ComparisonResult.{ComparisonResult}
 use Rattle.syntax.specs.declared.comparison.ComparisonResult.the-variants.{HasComparison, NoComparison}
-use Rattle.syntax.specs.declared.query.NextResult.{NextResult}
-use Rattle.syntax.specs.declared.query.NextResult.the-variants.{HasNext, NoNext}
 use Rattle.syntax.specs.Comparison as GC
-use Rattle.syntax.specs.Query as GQ
 use Rattle.syntax.specs.Scan.{Scan, skip, scan}
-use Rattle.syntax.specs.Query.{Query, bad, good, Comparisons, lastJoin}
+use Rattle.query_text.specs.declared.join.Join.{Join}
+use Rattle.query_text.specs.declared.join.Join.the-variants.{Last, Inner, Outer}
+use Rattle.query_text.specs.declared.join.JoinResult.{JoinResult}
+use Rattle.query_text.specs.declared.join.JoinResult.the-variants.{HasJoin, NoJoin}
+use Rattle.query_text.specs.declared.query.NextResult.{NextResult}
+use Rattle.query_text.specs.declared.query.NextResult.the-variants.{HasNext, NoNext}
+use Rattle.query_text.specs.Query as GQ
+use Rattle.query_text.specs.Query.{Query, bad, good, Comparisons, lastJoin}
 use Rattle.grammar.specs.Abnf.{Fits, one, join, left, right, stop, more, many, then, is, bool-op, property-comp, fql-expr, bracketed, fql, Derives}
 use Rattle.grammar.proofs.SoundComp.{comparison-fits}
 

@@ -3,9 +3,9 @@ use Prim.Native.Nat.{ℕ, zero, suc}
 use mathlib.Core.List.{List, [], _∷_, _++_}
 use lib.ListN.{take}
 use Rattle.base.specs.Ascii.{bytes}
-use Rattle.syntax.specs.declared.query.Verdict.{Verdict}
-use Rattle.syntax.specs.declared.query.Verdict.the-variants.{WellFormed, Refused}
-use Rattle.syntax.specs.Text.{numberOf, textVerdict}
+use Rattle.query_text.specs.declared.query.Verdict.{Verdict}
+use Rattle.query_text.specs.declared.query.Verdict.the-variants.{WellFormed, Refused}
+use Rattle.query_text.specs.Text.{numberOf, textVerdict}
 
 abbrev pub told : Verdict → ℕ × ℕ
 told WellFormed = (0, 0)

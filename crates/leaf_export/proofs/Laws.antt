@@ -5,12 +5,12 @@ use mathlib.Core.Bool.{Bool}
 use native.Mathlib.Omega.{arith}
 use Rattle.token.specs.declared.Token.{Token}
 use Rattle.syntax.specs.Scan.{Scan}
-use Rattle.syntax.specs.Query.{nextComparison}
 use Rattle.syntax.specs.declared.comparison.Comparison.{Comparison}
 use Rattle.syntax.specs.declared.fault.Fault.{Fault}
-use Rattle.syntax.specs.declared.join.Join.{Join}
-use Rattle.syntax.specs.declared.query.NextResult.{NextResult}
-use Rattle.syntax.specs.declared.query.NextResult.the-variants.{HasNext, NoNext}
+use Rattle.query_text.specs.Query.{nextComparison}
+use Rattle.query_text.specs.declared.join.Join.{Join}
+use Rattle.query_text.specs.declared.query.NextResult.{NextResult}
+use Rattle.query_text.specs.declared.query.NextResult.the-variants.{HasNext, NoNext}
 use Rattle.leaf_export.specs.QueryParts.{comparisonFrom}
 use Rattle.base.specs.declared.integer.Whole.{Whole}
 use Rattle.base.specs.declared.integer.Whole.the-variants.{Pos, NegSuc}

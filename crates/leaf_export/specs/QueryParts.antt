@@ -20,15 +20,7 @@ use Rattle.literal.specs.declared.Literal.the-variants as Literal
 use Rattle.literal.specs.declared.Decoded.{Decoded}
 use Rattle.literal.specs.declared.Decoded.the-variants.{Is, OutOfRange, NoLiteral}
 use Rattle.syntax.specs.Scan.{Scan}
-use Rattle.syntax.specs.Query.{nextComparison, queryStart}
-use Rattle.syntax.specs.Text.{numberOf}
-use Rattle.syntax.specs.declared.query.NextResult.{NextResult}
-use Rattle.syntax.specs.declared.query.NextResult.the-variants.{HasNext, NoNext}
-use Rattle.syntax.specs.declared.query.Verdict.{Verdict}
-use Rattle.syntax.specs.declared.query.Verdict.the-variants.{WellFormed, Refused}
 use Rattle.syntax.specs.declared.comparison.Comparison.{Comparison}
-use Rattle.syntax.specs.declared.join.Join.{Join}
-use Rattle.syntax.specs.declared.join.Join.the-variants.{Last, Inner, Outer}
 use Rattle.syntax.specs.declared.operation.Operation.{Operation}
 use Rattle.syntax.specs.declared.operation.Operation.the-variants as Operation
 use Rattle.syntax.specs.declared.path.Path.{Path}
@@ -37,6 +29,14 @@ use Rattle.syntax.specs.declared.path.Index.{Index}
 use Rattle.syntax.specs.declared.path.Index.the-variants as Index
 use Rattle.syntax.specs.declared.right_side.RightSide.{RightSide}
 use Rattle.syntax.specs.declared.right_side.RightSide.the-variants as Right
+use Rattle.query_text.specs.Query.{nextComparison, queryStart}
+use Rattle.query_text.specs.Text.{numberOf}
+use Rattle.query_text.specs.declared.query.NextResult.{NextResult}
+use Rattle.query_text.specs.declared.query.NextResult.the-variants.{HasNext, NoNext}
+use Rattle.query_text.specs.declared.query.Verdict.{Verdict}
+use Rattle.query_text.specs.declared.query.Verdict.the-variants.{WellFormed, Refused}
+use Rattle.query_text.specs.declared.join.Join.{Join}
+use Rattle.query_text.specs.declared.join.Join.the-variants.{Last, Inner, Outer}
 use Rattle.leaf_export.specs.declared.tokens.TokenParts.{TokenParts}
 use Rattle.leaf_export.specs.declared.Fault.{Fault}
 use Rattle.leaf_export.specs.declared.comparisons.LeftParts.{LeftParts}

@@ -1,12 +1,12 @@
 // The comparisons of a query, by number.
 use base::order::Operator;
+use query_text::join::Join;
+use query_text::query::NextResult;
 use syntax::comparison::Comparison;
-use syntax::join::Join;
 use syntax::operation::Operation;
 use syntax::path::Index;
 use syntax::path::Path;
 use syntax::path::Span;
-use syntax::query::NextResult;
 use syntax::right_side::RightSide;
 use terminal::operator::BoolOp;
 use terminal::quantifier::Quantifier;
@@ -55,12 +55,12 @@ pub struct RightParts {
 fn comparison_at(q: &[u8], n: usize) -> NextResult
     ensures { λ r. ⌜ r ≡ comparisonAt (scan (now (q .entry))) n ⌝ }
 {
-    let start = syntax::query::open_query(q);
+    let start = query_text::query::open_query(q);
     let grouped = start.grouped;
     let mut t = start.token;
     let mut left = n;
     while 0 < left {
-        match syntax::query::read_next(q, grouped, t) {
+        match query_text::query::read_next(q, grouped, t) {
             NextResult::NoNext(f) => {
                 return NextResult::NoNext(f);
             }
@@ -70,7 +70,7 @@ fn comparison_at(q: &[u8], n: usize) -> NextResult
             }
         }
     }
-    syntax::query::read_next(q, grouped, t)
+    query_text::query::read_next(q, grouped, t)
 }
 
 fn join_code(j: Join) -> u64

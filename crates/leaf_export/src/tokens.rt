@@ -1,13 +1,13 @@
 // Tokens, and the verdict on a whole text.
 use crate::Fault;
-use syntax::query::Verdict;
+use query_text::query::Verdict;
 use token::Token;
 use token::TokenKind;
 ghost use mathlib.Core.Path.{_≡_};
 ghost use Prim.Native.Nat.{ℕ};
 ghost use Rattle.base.specs.Pick.{pick};
 ghost use Rattle.token.specs.Token.{token, tokenAfter};
-ghost use Rattle.syntax.specs.Text.{textVerdict};
+ghost use Rattle.query_text.specs.Text.{textVerdict};
 ghost use Rattle.leaf_export.specs.QueryParts.{tokenParts, verdictParts};
 
 #[repr(C)]
@@ -64,7 +64,7 @@ fn parts_of_verdict(v: Verdict) -> Fault
         Verdict::Refused(f) => {
             let cause = f.cause;
             Fault {
-                number: syntax::text::number_of(cause) as u64,
+                number: query_text::text::number_of(cause) as u64,
                 place: f.place as u64,
             }
         }
@@ -75,5 +75,5 @@ fn parts_of_verdict(v: Verdict) -> Fault
 pub extern "C" fn leaf_check_text(q: &[u8]) -> Fault
     ensures { λ r. ⌜ r ≡ verdictParts (textVerdict (now (q .entry))) ⌝ }
 {
-    parts_of_verdict(syntax::text::check_text(q))
+    parts_of_verdict(query_text::text::check_text(q))
 }

@@ -4,10 +4,10 @@ use mathlib.Core.Path.{_≡_, refl, ap}
 use mathlib.Core.Bool.{Bool, true, false, _&&_}
 use native.Mathlib.Omega.{arith}
 use Rattle.syntax.specs.declared.comparison.Comparison.{Comparison}
-use Rattle.syntax.specs.declared.join.Join.{Join}
-use Rattle.syntax.specs.declared.join.Join.the-variants.{Last, Inner, Outer}
-use Rattle.syntax.specs.Query.{Comparisons, only, more, lastJoin}
-use Rattle.syntax.specs.Tree.{Tree, tree, join, State, live, step}
+use Rattle.query_text.specs.declared.join.Join.{Join}
+use Rattle.query_text.specs.declared.join.Join.the-variants.{Last, Inner, Outer}
+use Rattle.query_text.specs.Query.{Comparisons, only, more, lastJoin}
+use Rattle.query_text.specs.Tree.{Tree, tree, join, State, live, step}
 use Rattle.short_circuit.specs.declared.Told.{Told}
 use Rattle.short_circuit.specs.Count.{treeSteps, sumOf}
 use Rattle.short_circuit.specs.Walk.{initial, stepsIf}

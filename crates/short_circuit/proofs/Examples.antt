@@ -1,7 +1,7 @@
 -- The answers of specs/Examples, computed from the tree and from the walk.
 use mathlib.Core.Path.{_≡_, refl}
 use Rattle.base.specs.Vectors.{results, expected}
-use Rattle.syntax.specs.Tree
+use Rattle.query_text.specs.Tree
 use Rattle.short_circuit.specs.Count
 use Rattle.short_circuit.specs.Walk
 use Rattle.short_circuit.specs.Examples.{byTree, byWalk, examples}

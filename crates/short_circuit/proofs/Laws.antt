@@ -3,9 +3,9 @@ use mathlib.Core.Path.{_≡_, refl}
 use mathlib.Core.Bool.{Bool, true, false, _&&_, _||_}
 use Rattle.terminal.specs.declared.operator.BoolOp.{BoolOp}
 use Rattle.terminal.specs.declared.operator.BoolOp.the-variants.{And, Or}
-use Rattle.syntax.specs.declared.join.Join.{Join}
-use Rattle.syntax.specs.declared.join.Join.the-variants.{Last, Inner, Outer}
-use Rattle.syntax.specs.Tree.{State, state, total, step}
+use Rattle.query_text.specs.declared.join.Join.{Join}
+use Rattle.query_text.specs.declared.join.Join.the-variants.{Last, Inner, Outer}
+use Rattle.query_text.specs.Tree.{State, state, total, step}
 
 module _ (o a g h b : Bool) {op : BoolOp} where
   pub inner-and : op ≡ And → state o a g (h && b) ≡ step (Inner op) (state o a g h) b

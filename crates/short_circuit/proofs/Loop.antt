@@ -8,14 +8,14 @@ use Rattle.token.specs.declared.Token.{Token}
 use Rattle.terminal.specs.Terminal.{opening}
 use Rattle.syntax.specs.declared.comparison.Comparison.{Comparison}
 use Rattle.syntax.specs.declared.fault.Fault.{Fault}
-use Rattle.syntax.specs.declared.join.Join.{Join}
-use Rattle.syntax.specs.declared.query.NextResult.{NextResult}
-use Rattle.syntax.specs.declared.query.NextResult.the-variants.{HasNext, NoNext}
-use Rattle.syntax.specs.declared.query.QueryStart.{QueryStart}
 use Rattle.syntax.specs.Scan.{Scan, scan}
-use Rattle.syntax.specs.Query.{Comparisons, Query, bad, good, before, lastJoin, nextComparison, queryFrom, queryStart, query}
-use Rattle.syntax.specs.Tree.{tree, holds, State, live, total, step}
-use Rattle.syntax.proofs.Laws.{from-out, from-bad, from-last, from-more}
+use Rattle.query_text.specs.declared.join.Join.{Join}
+use Rattle.query_text.specs.declared.query.NextResult.{NextResult}
+use Rattle.query_text.specs.declared.query.NextResult.the-variants.{HasNext, NoNext}
+use Rattle.query_text.specs.declared.query.QueryStart.{QueryStart}
+use Rattle.query_text.specs.Query.{Comparisons, Query, bad, good, before, lastJoin, nextComparison, queryFrom, queryStart, query}
+use Rattle.query_text.specs.Tree.{tree, holds, State, live, total, step}
+use Rattle.query_text.proofs.Laws.{from-out, from-bad, from-last, from-more}
 use Rattle.short_circuit.specs.declared.Told.{Told}
 use Rattle.short_circuit.specs.Count.{treeSteps}
 use Rattle.short_circuit.specs.Walk.{told, initial, stepsIf, walk, Joined, walkQuery}

@@ -7,10 +7,10 @@ use native.Mathlib.Omega.{arith}
 use Rattle.base.specs.Pick.{pick}
 use Rattle.terminal.specs.declared.operator.BoolOp.the-variants.{And, Or}
 use Rattle.syntax.specs.declared.comparison.Comparison.{Comparison}
-use Rattle.syntax.specs.declared.join.Join.{Join}
-use Rattle.syntax.specs.declared.join.Join.the-variants.{Last, Inner, Outer}
-use Rattle.syntax.specs.Query.{lastJoin}
-use Rattle.syntax.specs.Tree.{Chain, one, then, front, Group, Tree, join, every, some, holds, State, state, live, total, step}
+use Rattle.query_text.specs.declared.join.Join.{Join}
+use Rattle.query_text.specs.declared.join.Join.the-variants.{Last, Inner, Outer}
+use Rattle.query_text.specs.Query.{lastJoin}
+use Rattle.query_text.specs.Tree.{Chain, one, then, front, Group, Tree, join, every, some, holds, State, state, live, total, step}
 use Rattle.short_circuit.specs.declared.Told.{Told}
 use Rattle.short_circuit.specs.Count.{everySteps, someSteps, treeSteps}
 use Rattle.short_circuit.specs.Walk.{told, initial, stepsIf}

@@ -4,8 +4,8 @@ use mathlib.Core.Path.{_≡_, sym, ap, ap₂, _∙_, fun-ext}
 use mathlib.Core.Bool.{Bool, _&&_}
 use native.Mathlib.Omega.{arith}
 use Rattle.syntax.specs.declared.comparison.Comparison.{Comparison}
-use Rattle.syntax.specs.Query.{Comparisons, only, more, Query}
-use Rattle.syntax.specs.Tree.{Tree, tree, holds, State, live, total, step}
+use Rattle.query_text.specs.Query.{Comparisons, only, more, Query}
+use Rattle.query_text.specs.Tree.{Tree, tree, holds, State, live, total, step}
 use Rattle.short_circuit.specs.Count.{treeSteps}
 use Rattle.short_circuit.specs.Walk.{told, initial, stepsIf, walk, Joined, walkQuery}
 use Rattle.short_circuit.proofs.Rest.{add, add-zero, add-add, restOf, rest-last, rest-more, rest-all}

@@ -1,11 +1,11 @@
 -- 01 "Steps": "A comparison that is judged counts 1"; "The rest of an AND chain is skipped after a false part, the rest of an OR after a true one." Over the tree of
--- syntax/specs/Tree, which binds AND before OR in a group and between groups; `v` is what a comparison comes to, `n` the steps that it counts if it is judged.
+-- query_text/specs/Tree, which binds AND before OR in a group and between groups; `v` is what a comparison comes to, `n` the steps that it counts if it is judged.
 use Prim.Native.Nat.{ℕ, _+_}
 use mathlib.Core.Bool.{Bool, true, false}
 use Rattle.base.specs.Pick.{pick}
 use Rattle.syntax.specs.declared.comparison.Comparison.{Comparison}
-use Rattle.syntax.specs.Query.{Comparisons, only, more}
-use Rattle.syntax.specs.Tree.{Chain, one, then, Tree, every, some}
+use Rattle.query_text.specs.Query.{Comparisons, only, more}
+use Rattle.query_text.specs.Tree.{Chain, one, then, Tree, every, some}
 
 -- the steps of an AND chain and of an OR chain, whose parts come to v and count n
 unfoldable pub everySteps : {A : Type 0} → (A → Bool) → (A → ℕ) → Chain A → ℕ

@@ -10,9 +10,9 @@ use Rattle.syntax.specs.declared.path.Index.the-variants.{Whole}
 use Rattle.syntax.specs.declared.operation.Operation.the-variants.{Like}
 use Rattle.syntax.specs.declared.right_side.RightSide.the-variants.{Elements}
 use Rattle.syntax.specs.declared.comparison.Comparison.{Comparison}
-use Rattle.syntax.specs.declared.join.Join.the-variants.{Inner, Outer}
-use Rattle.syntax.specs.Query.{Comparisons, only, more}
-use Rattle.syntax.specs.Tree.{tree, holds}
+use Rattle.query_text.specs.declared.join.Join.the-variants.{Inner, Outer}
+use Rattle.query_text.specs.Query.{Comparisons, only, more}
+use Rattle.query_text.specs.Tree.{tree, holds}
 use Rattle.short_circuit.specs.declared.Told.{Told}
 use Rattle.short_circuit.specs.Count.{treeSteps}
 use Rattle.short_circuit.specs.Walk.{told, initial, walk}

@@ -1,13 +1,13 @@
--- The query from left to right, as the code goes: with what its chains have come to so far (syntax/specs/Tree) and the steps so far. proofs/Steps shows that it
+-- The query from left to right, as the code goes: with what its chains have come to so far (query_text/specs/Tree) and the steps so far. proofs/Steps shows that it
 -- comes to the tree's truth and steps.
 use Prim.Native.Nat.{ℕ, _+_}
 use mathlib.Core.Path.{_≡_}
 use mathlib.Core.Bool.{Bool, true, false, _&&_}
 use Rattle.base.specs.Pick.{pick}
 use Rattle.syntax.specs.declared.comparison.Comparison.{Comparison}
-use Rattle.syntax.specs.Query.{Comparisons, only, more, Query, bad, good, lastJoin}
-use Rattle.syntax.specs.Tree as tree
-use Rattle.syntax.specs.Tree.{state, live, total, step}
+use Rattle.query_text.specs.Query.{Comparisons, only, more, Query, bad, good, lastJoin}
+use Rattle.query_text.specs.Tree as tree
+use Rattle.query_text.specs.Tree.{state, live, total, step}
 use Rattle.short_circuit.specs.declared.Chains.{Chains}
 use Rattle.short_circuit.specs.declared.Told.{Told}
 

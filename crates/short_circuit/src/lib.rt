@@ -1,8 +1,8 @@
 // AND before OR, from left to right, with the rest of a chain skipped once it is decided.
-use syntax::join::Join;
+use query_text::join::Join;
 use terminal::operator::BoolOp;
 ghost use mathlib.Core.Path.{_≡_};
-ghost use Rattle.syntax.specs.Tree.{live, total, step};
+ghost use Rattle.query_text.specs.Tree.{live, total, step};
 ghost use Rattle.short_circuit.specs.Walk.{stateOf, initial};
 
 // What the closed and the open chains have come to so far, outermost first.

@@ -1,6 +1,3 @@
 pub mod Scan
 pub mod Property
 pub mod Comparison
-pub mod Query
-pub mod Text
-pub mod Tree

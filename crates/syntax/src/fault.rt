@@ -17,7 +17,7 @@ pub struct Fault {
 }
 
 // The fault where a limit is used up: one more stands there, or the grammar breaks.
-pub(crate) fn limit_at(over: bool, place: usize) -> Fault
+pub fn limit_at(over: bool, place: usize) -> Fault
     ensures { λ r. ⌜ r ≡ limited over place ⌝ }
 {
     if over {

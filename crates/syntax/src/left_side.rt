@@ -25,7 +25,7 @@ pub enum LeftResult {
     NoLeft(usize),
 }
 
-pub(crate) fn skip_if(q: &[u8], yes: bool, t: Token) -> Token
+pub fn skip_if(q: &[u8], yes: bool, t: Token) -> Token
     ensures { λ r. ⌜ r ≡ skip (scan (now (q .entry))) yes t ⌝ }
 {
     if yes {

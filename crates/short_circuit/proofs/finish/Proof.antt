@@ -1,5 +1,5 @@
 use mathlib.Core.Path.{refl}
-use Rattle.syntax.specs.Tree.{total}
+use Rattle.query_text.specs.Tree.{total}
 use Rattle.short_circuit.proofs.finish.Statement.{statement}
 use Rattle.short_circuit.proofs.finish.Tie as tie
 use Rattle.short_circuit.proofs.finish.Reads as reads

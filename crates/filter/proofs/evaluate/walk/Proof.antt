@@ -5,7 +5,7 @@ use Rattle.filter.proofs.evaluate.walk.Tie as tie
 use Rattle.filter.proofs.evaluate.walk.Reads as reads
 use Rattle.filter.proofs.evaluate.walk.Lts as lts
 use Rattle.filter.proofs.evaluate.walk_from.Reads as walk-from-reads
-use Rattle.syntax.proofs.query.open_query.Reads as open-query-reads
+use Rattle.query_text.proofs.query.open_query.Reads as open-query-reads
 
 -- src/evaluate.rt:93:9
 open-query-requires : tie.Need-open-query-requires

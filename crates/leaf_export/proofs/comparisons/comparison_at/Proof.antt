@@ -1,16 +1,16 @@
 use borrow.Author.Needs.{needs}
 use mathlib.Core.Path.{_≡_, refl, sym, ap, _∙_}
 use Rattle.syntax.specs.Scan.{scan}
-use Rattle.syntax.specs.Query.{queryStart}
-use Rattle.syntax.specs.declared.query.QueryStart.{QueryStart}
+use Rattle.query_text.specs.Query.{queryStart}
+use Rattle.query_text.specs.declared.query.QueryStart.{QueryStart}
 use Rattle.leaf_export.specs.QueryParts.{comparisonFrom, comparisonAt}
 use Rattle.leaf_export.proofs.Laws.{comparison-fault, comparison-next, comparison-here}
 use Rattle.leaf_export.proofs.comparisons.comparison_at.Statement.{statement}
 use Rattle.leaf_export.proofs.comparisons.comparison_at.Tie as tie
 use Rattle.leaf_export.proofs.comparisons.comparison_at.Reads as reads
 use Rattle.leaf_export.proofs.comparisons.comparison_at.Lts as lts
-use Rattle.syntax.proofs.query.open_query.Reads as open-query-reads
-use Rattle.syntax.proofs.query.read_next.Reads as read-next-reads
+use Rattle.query_text.proofs.query.open_query.Reads as open-query-reads
+use Rattle.query_text.proofs.query.read_next.Reads as read-next-reads
 
 abbrev Inv-loop : tie.InvT-loop
 Inv-loop q n grouped t₀ left₀ t left = comparisonAt (scan q) n ≡ comparisonFrom (scan q) grouped left t

@@ -4,7 +4,7 @@ use Rattle.leaf_export.proofs.tokens.leaf_check_text.Tie as tie
 use Rattle.leaf_export.proofs.tokens.leaf_check_text.Reads as reads
 use Rattle.leaf_export.proofs.tokens.leaf_check_text.Lts as lts
 use Rattle.leaf_export.proofs.tokens.parts_of_verdict.Reads as parts-of-verdict-reads
-use Rattle.syntax.proofs.text.check_text.Reads as check-text-reads
+use Rattle.query_text.proofs.text.check_text.Reads as check-text-reads
 
 -- src/tokens.rt:78:22
 check-text-requires : tie.Need-check-text-requires

@@ -3,7 +3,7 @@ use Rattle.leaf_export.proofs.tokens.parts_of_verdict.Statement.{statem
 use Rattle.leaf_export.proofs.tokens.parts_of_verdict.Tie as tie
 use Rattle.leaf_export.proofs.tokens.parts_of_verdict.Reads as reads
 use Rattle.leaf_export.proofs.tokens.parts_of_verdict.Lts as lts
-use Rattle.syntax.proofs.text.number_of.Reads as number-of-reads
+use Rattle.query_text.proofs.text.number_of.Reads as number-of-reads
 
 -- src/tokens.rt:60:32
 enum-told : tie.Need-enum-told

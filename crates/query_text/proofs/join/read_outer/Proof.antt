@@ -1,10 +1,10 @@
 use borrow.Author.Tests.{not-true, not-false}
-use Rattle.syntax.specs.Query.{atEnd, openGroup, outerBy, afterGroup, outer}
+use Rattle.query_text.specs.Query.{atEnd, openGroup, outerBy, afterGroup, outer}
 use borrow.Author.Needs.{needs}
-use Rattle.syntax.proofs.join.read_outer.Statement.{statement}
-use Rattle.syntax.proofs.join.read_outer.Tie as tie
-use Rattle.syntax.proofs.join.read_outer.Reads as reads
-use Rattle.syntax.proofs.join.read_outer.Lts as lts
+use Rattle.query_text.proofs.join.read_outer.Statement.{statement}
+use Rattle.query_text.proofs.join.read_outer.Tie as tie
+use Rattle.query_text.proofs.join.read_outer.Reads as reads
+use Rattle.query_text.proofs.join.read_outer.Lts as lts
 use Rattle.token.proofs.token_after.Reads as token-after-reads
 use Rattle.terminal.proofs.kind.is_kind.Reads as is-kind-reads
 use Rattle.terminal.proofs.operator.joining_of.Reads as joining-of-reads

@@ -1,15 +1,15 @@
 use borrow.Author.Needs.{needs}
 use mathlib.Core.Path.{_≡_, refl}
-use Rattle.syntax.proofs.Laws.{verdict-out, verdict-bad, verdict-last, verdict-more}
+use Rattle.query_text.proofs.Laws.{verdict-out, verdict-bad, verdict-last, verdict-more}
 use Rattle.syntax.specs.Scan.{scan}
-use Rattle.syntax.specs.Query.{queryFrom, verdict}
-use Rattle.syntax.proofs.query.read_from.Statement.{statement}
-use Rattle.syntax.proofs.query.read_from.Tie as tie
-use Rattle.syntax.proofs.query.read_from.Reads as reads
-use Rattle.syntax.proofs.query.read_from.Lts as lts
-use Rattle.syntax.proofs.join.is_last.Reads as is-last-reads
+use Rattle.query_text.specs.Query.{queryFrom, verdict}
+use Rattle.query_text.proofs.query.read_from.Statement.{statement}
+use Rattle.query_text.proofs.query.read_from.Tie as tie
+use Rattle.query_text.proofs.query.read_from.Reads as reads
+use Rattle.query_text.proofs.query.read_from.Lts as lts
+use Rattle.query_text.proofs.join.is_last.Reads as is-last-reads
 use Rattle.syntax.proofs.fault.limit_at.Reads as limit-at-reads
-use Rattle.syntax.proofs.query.read_next.Reads as read-next-reads
+use Rattle.query_text.proofs.query.read_next.Reads as read-next-reads
 use Rattle.terminal.proofs.quantifier.is_opening.Reads as is-opening-reads
 
 abbrev Inv-loop : tie.InvT-loop

@@ -1,21 +1,21 @@
 // A query's comparisons, one after another.
-use crate::comparison::Comparison;
-use crate::comparison::ComparisonResult;
-use crate::comparison::read_comparison;
-use crate::fault::Cause;
-use crate::fault::Fault;
-use crate::fault::limit_at;
 use crate::join::Join;
 use crate::join::JoinResult;
 use crate::join::is_last;
 use crate::join::read_join;
-use crate::left_side::skip_if;
+use syntax::comparison::Comparison;
+use syntax::comparison::ComparisonResult;
+use syntax::comparison::read_comparison;
+use syntax::fault::Cause;
+use syntax::fault::Fault;
+use syntax::fault::limit_at;
+use syntax::left_side::skip_if;
 use token::Punctuation;
 use token::Token;
 use token::TokenKind;
 ghost use mathlib.Core.Path.{_≡_};
 ghost use Rattle.syntax.specs.Scan.{scan};
-ghost use Rattle.syntax.specs.Query.{nextComparison, queryFrom, queryStart, query, verdict};
+ghost use Rattle.query_text.specs.Query.{nextComparison, queryFrom, queryStart, query, verdict};
 
 // The first comparison's first token, and whether its fql-expr is bracketed.
 pub struct QueryStart {

@@ -10,22 +10,22 @@ use Rattle.token.specs.Token.{token}
 use Rattle.terminal.specs.declared.operator.Joining.{Joining}
 use Rattle.terminal.specs.declared.operator.Joining.the-variants.{With, NoBoolOp}
 use Rattle.terminal.specs.Terminal.{same, joining, opening}
 use Rattle.syntax.specs.declared.comparison.Comparison.{Comparison}
-use Rattle.syntax.specs.declared.join.Join.{Join}
-use Rattle.syntax.specs.declared.join.Join.the-variants.{Last, Inner, Outer}
 use Rattle.syntax.specs.declared.fault.Cause.the-variants.{Grammar}
 use Rattle.syntax.specs.declared.fault.Fault.{Fault}
 use Rattle.syntax.specs.declared.comparison.ComparisonResult.{ComparisonResult}
 use Rattle.syntax.specs.declared.comparison.ComparisonResult.the-variants.{HasComparison, NoComparison}
-use Rattle.syntax.specs.declared.join.JoinResult.{JoinResult}
-use Rattle.syntax.specs.declared.join.JoinResult.the-variants.{HasJoin, NoJoin}
-use Rattle.syntax.specs.declared.query.NextResult.{NextResult}
-use Rattle.syntax.specs.declared.query.NextResult.the-variants.{HasNext, NoNext}
-use Rattle.syntax.specs.declared.query.Verdict.{Verdict}
-use Rattle.syntax.specs.declared.query.Verdict.the-variants.{WellFormed, Refused}
-use Rattle.syntax.specs.declared.query.QueryStart.{QueryStart}
 use Rattle.syntax.specs.Scan.{Scan, scan, fault, limited, skip}
 use Rattle.syntax.specs.Comparison.{propertyComp}
+use Rattle.query_text.specs.declared.join.Join.{Join}
+use Rattle.query_text.specs.declared.join.Join.the-variants.{Last, Inner, Outer}
+use Rattle.query_text.specs.declared.join.JoinResult.{JoinResult}
+use Rattle.query_text.specs.declared.join.JoinResult.the-variants.{HasJoin, NoJoin}
+use Rattle.query_text.specs.declared.query.NextResult.{NextResult}
+use Rattle.query_text.specs.declared.query.NextResult.the-variants.{HasNext, NoNext}
+use Rattle.query_text.specs.declared.query.Verdict.{Verdict}
+use Rattle.query_text.specs.declared.query.Verdict.the-variants.{WellFormed, Refused}
+use Rattle.query_text.specs.declared.query.QueryStart.{QueryStart}
 
 -- fql-expr = property-comp *( bool-op property-comp )
 -- fql = fql-expr / "(" fql-expr ")" *( bool-op "(" fql-expr ")" )

@@ -1,11 +1,11 @@
 // A query's text: its length, its encoding, its grammar and limits.
-use crate::fault::Cause;
-use crate::fault::Fault;
 use crate::query::Verdict;
 use crate::query::read_query;
+use syntax::fault::Cause;
+use syntax::fault::Fault;
 use unicode::text::Utf8;
 ghost use mathlib.Core.Path.{_≡_};
-ghost use Rattle.syntax.specs.Text.{numberOf, textVerdict};
+ghost use Rattle.query_text.specs.Text.{numberOf, textVerdict};
 
 // 01's number of a refusal.
 pub fn number_of(cause: Cause) -> usize

@@ -5,8 +5,8 @@ use token::Punctuation;
 use token::Token;
 use token::TokenKind;
 ghost use mathlib.Core.Path.{_≡_};
 ghost use Rattle.syntax.specs.Scan.{scan};
-ghost use Rattle.syntax.specs.Query.{outer, joinAfter, lastJoin};
+ghost use Rattle.query_text.specs.Query.{outer, joinAfter, lastJoin};
 
 // The end, bool-op inside an fql-expr, or ")" bool-op "(".
 pub enum Join {

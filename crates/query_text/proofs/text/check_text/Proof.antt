@@ -1,10 +1,10 @@
-use Rattle.syntax.proofs.Laws.{text-long, text-ill, text-well}
+use Rattle.query_text.proofs.Laws.{text-long, text-ill, text-well}
 use borrow.Author.Needs.{needs}
-use Rattle.syntax.proofs.text.check_text.Statement.{statement}
-use Rattle.syntax.proofs.text.check_text.Tie as tie
-use Rattle.syntax.proofs.text.check_text.Reads as reads
-use Rattle.syntax.proofs.text.check_text.Lts as lts
-use Rattle.syntax.proofs.query.read_query.Reads as read-query-reads
+use Rattle.query_text.proofs.text.check_text.Statement.{statement}
+use Rattle.query_text.proofs.text.check_text.Tie as tie
+use Rattle.query_text.proofs.text.check_text.Reads as reads
+use Rattle.query_text.proofs.text.check_text.Lts as lts
+use Rattle.query_text.proofs.query.read_query.Reads as read-query-reads
 use Rattle.unicode.proofs.text.check_utf8.Reads as check-utf8-reads
 
 returns : tie.Need-returns

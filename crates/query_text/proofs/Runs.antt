@@ -2,10 +2,10 @@
 use mathlib.Core.Path.{_≡_, refl, sym, ap, _∙_}
 use mathlib.Core.Bool.{Bool, true, false, _&&_, _||_}
 use Rattle.terminal.specs.declared.operator.BoolOp.the-variants.{And, Or}
 use Rattle.syntax.specs.declared.comparison.Comparison.{Comparison}
-use Rattle.syntax.specs.declared.join.Join.the-variants.{Last, Inner, Outer}
-use Rattle.syntax.specs.Query.{Comparisons, only, more}
-use Rattle.syntax.specs.Tree.{Chain, one, then, front, Group, Tree, tree, every, some, holds, state, live, total, step, runs}
+use Rattle.query_text.specs.declared.join.Join.the-variants.{Last, Inner, Outer}
+use Rattle.query_text.specs.Query.{Comparisons, only, more}
+use Rattle.query_text.specs.Tree.{Chain, one, then, front, Group, Tree, tree, every, some, holds, state, live, total, step, runs}
 
 -- a chain whose first part is looked at in another way
 unfoldable some₁ : {A : Type 0} → (A → Bool) → (A → Bool) → Chain A → Bool

@@ -1,11 +1,11 @@
-use Rattle.syntax.specs.Query.{startAt, queryStart}
+use Rattle.query_text.specs.Query.{startAt, queryStart}
 use borrow.Author.Needs.{needs}
-use Rattle.syntax.proofs.query.open_query.Statement.{statement}
-use Rattle.syntax.proofs.query.open_query.Tie as tie
-use Rattle.syntax.proofs.query.open_query.Reads as reads
-use Rattle.syntax.proofs.query.open_query.Lts as lts
+use Rattle.query_text.proofs.query.open_query.Statement.{statement}
+use Rattle.query_text.proofs.query.open_query.Tie as tie
+use Rattle.query_text.proofs.query.open_query.Reads as reads
+use Rattle.query_text.proofs.query.open_query.Lts as lts
 use Rattle.token.proofs.token_after.Reads as token-after-reads
 use Rattle.syntax.proofs.left_side.skip_if.Reads as skip-if-reads
 use Rattle.terminal.proofs.kind.is_kind.Reads as is-kind-reads
 
 token-after-requires : tie.Need-token-after-requires

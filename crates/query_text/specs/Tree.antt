@@ -1,10 +1,10 @@
 -- The same comparisons as 5.2.9 binds them: OR of ANDs of groups, each OR of ANDs of comparisons.
 use mathlib.Core.Bool.{Bool, true, false, not, _&&_, _||_}
 use Rattle.terminal.specs.declared.operator.BoolOp.the-variants.{And, Or}
 use Rattle.syntax.specs.declared.comparison.Comparison.{Comparison}
-use Rattle.syntax.specs.declared.join.Join.{Join}
-use Rattle.syntax.specs.declared.join.Join.the-variants.{Last, Inner, Outer}
-use Rattle.syntax.specs.Query.{Comparisons, only, more}
+use Rattle.query_text.specs.declared.join.Join.{Join}
+use Rattle.query_text.specs.declared.join.Join.the-variants.{Last, Inner, Outer}
+use Rattle.query_text.specs.Query.{Comparisons, only, more}
 
 -- one or more
 pub data Chain (A : Type 0) : Type 0 where

@@ -7,12 +7,12 @@ use Rattle.base.specs.Pick.{pick}
 use Rattle.unicode.specs.declared.text.Utf8.{Utf8}
 use Rattle.unicode.specs.declared.text.Utf8.the-variants as Utf8
 use Rattle.unicode.specs.WellFormed.{firstIllFormed}
 use Rattle.syntax.specs.declared.fault.Cause.{Cause}
 use Rattle.syntax.specs.declared.fault.Cause.the-variants.{Length, Encoding, Grammar, Limit}
-use Rattle.syntax.specs.declared.query.Verdict.{Verdict}
-use Rattle.syntax.specs.declared.query.Verdict.the-variants.{WellFormed, Refused}
 use Rattle.syntax.specs.Scan.{fault}
-use Rattle.syntax.specs.Query.{query, verdict}
+use Rattle.query_text.specs.declared.query.Verdict.{Verdict}
+use Rattle.query_text.specs.declared.query.Verdict.the-variants.{WellFormed, Refused}
+use Rattle.query_text.specs.Query.{query, verdict}
 
 -- 01's numbers
 abbrev pub numberOf : Cause → ℕ

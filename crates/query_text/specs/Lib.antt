@@ -1,0 +1,3 @@
+pub mod Query
+pub mod Text
+pub mod Tree
