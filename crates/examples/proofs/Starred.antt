@@ -122,7 +122,7 @@ unfolding
     syntax-property.oneMore syntax-property.dotted syntax-property.property syntax-property.closeIndex syntax-property.indexNumber syntax-property.indexed syntax-property.withIndex syntax-property.withPath syntax-property.reference
     query-text-query.atEnd query-text-query.openGroup query-text-query.outerBy query-text-query.afterGroup query-text-query.outer query-text-query.joinBy query-text-query.joinAfter query-text-query.nextOf query-text-query.nextBy query-text-query.nextComparison query-text-query.before query-text-query.queryFrom query-text-query.startAt query-text-query.queryStart query-text-query.query query-text-query.verdict
     query-text-text.encodedVerdict query-text-text.textVerdict
-    query-text-tree.front query-text-tree.tree query-text-tree.every query-text-tree.some query-text-tree.holds query-text-tree.total query-text-tree.step query-text-tree.runs
+    query-text-tree.front query-text-tree.tree query-text-tree.every query-text-tree.some query-text-tree.holds query-text-tree.total query-text-tree.step
     value-compare.orderOfScalars value-compare.compares
     value-item.listed value-item.itemValue
     value-read.valueInRecord

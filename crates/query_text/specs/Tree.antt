@@ -67,8 +67,3 @@ step (Inner And) s b = state (s .ors) (s .ands) (s .groupOrs) (s .groupAnds && b
 step (Inner Or) s b = state (s .ors) (s .ands) (s .groupOrs || (s .groupAnds && b)) true
 step (Outer And) s b = state (s .ors) (s .ands && (s .groupOrs || (s .groupAnds && b))) false true
 step (Outer Or) s b = state (total s b) true false true
-
--- the evaluator: a comparison that is not judged counts as false
-unfoldable pub runs : (Comparison → Bool) → State → Comparisons → Bool
-runs v s (only c) = total s (live s && v c)
-runs v s (more c j r) = runs v (step j s (live s && v c)) r
