@@ -1,4 +1,4 @@
--- What check and evaluate say of 01's starred examples, computed from their definitions.
+-- What check and evaluate say of 01's starred examples, and mark of runs, computed from their definitions.
 use mathlib.Core.Path.{_≡_, refl}
 use lib.Ieee.{ofInt, ofBits, mul, div, neg, round, lt, eq}
 use Rattle.base.specs.Vectors.{results, expected}
@@ -70,9 +70,14 @@ use Rattle.filter.specs.Check as filter-check
 use Rattle.filter.specs.Evaluate as filter-evaluate
 use Rattle.filter.specs.Meaning as filter-meaning
 use Rattle.filter.specs.Refusal as filter-refusal
+use Rattle.run.specs.Run as run-run
+use Rattle.run.specs.Totals as run-totals
+use Rattle.mark.specs.Mark as mark-mark
 use Rattle.examples.specs.Starred.{outcomes, starred}
+use Rattle.examples.specs.Marks.{outcome, calls}
 
-pub starred-right : results outcomes starred ≡ expected starred
+-- both in one computation, so that what it unfolds is listed once
+every-one : (results outcomes starred ≡ expected starred) × (results outcome calls ≡ expected calls)
 unfolding
     ofInt ofBits mul div neg round lt eq base-walk.walk
     base-digit.digitOf base-digit.allDigits base-digit.valueOf base-digit.sizeUnder
@@ -143,4 +148,13 @@ unfolding
     filter-evaluate.evaluate filter-evaluate.steps filter-evaluate.bound
     filter-meaning.truthOf filter-meaning.stepsOf filter-meaning.readsOf filter-meaning.unlessFailing filter-meaning.queryMeaning filter-meaning.querySteps filter-meaning.queryBound
     filter-refusal.callOf
-starred-right = refl
+    run-run.readingFrom run-run.runReading run-run.bodiesOf run-run.instancesOf
+    run-totals.count
+    mark-mark.mark mark-mark.marksAfter
+every-one = (refl, refl)
+
+pub starred-right : results outcomes starred ≡ expected starred
+starred-right = every-one .0
+
+pub calls-right : results outcome calls ≡ expected calls
+calls-right = every-one .1

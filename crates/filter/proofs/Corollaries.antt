@@ -86,7 +86,7 @@ module _ (b : Bool) (n : ℕ) where
 
 module _ (q t i : List ℕ) (accepted : check q t ≡ checked.Accepted) where
   comes-to : evaluate q t i ≡ answerIf (conformity t i) (truthCall q t i (callOf q t)) (steps q t i)
-  comes-to = evaluates q t i refl accepted refl
+  comes-to = evaluates q t i accepted refl
 
   refused-as : (p : ℕ) → evaluate q t i ≡ instanceRefused p → conformity t i ≡ Fault Nonconforming p
   refused-as p e = answer-wrong (truthCall q t i (callOf q t)) (steps q t i) (conformity t i) p (sym comes-to ∙ e)

@@ -202,6 +202,9 @@ module _ (q t : List ℕ) where
     table-taken n e h = h ∙ sym (ap (λ (x : TableReading). checkCall q t (callUnder q x)) (sym er ∙ e))
 
 -- ---- evaluation
+pub accepts : (q t : List ℕ) {v : Checked} → v ≡ check.check q t → v ≡ Accepted → check.check q t ≡ Accepted
+accepts q t ev e = sym ev ∙ e
+
 module _ (q t i : List ℕ) {v : Checked} (ev : v ≡ check.check q t) where
   pub evaluate-refused : (r : Refusal) → v ≡ Refused r → answers.Refused r ≡ evaluate q t i
   evaluate-refused r e = sym (refused-same q t i (check.check q t) (evaluate q t i) (truthCall q t i (callOf q t)) _ (tied q t i) r (sym ev ∙ e))
@@ -234,7 +237,7 @@ short t i ek e = go (ltb 65535 (length i)) refl
     go true f = absurd (subst IsLong (sym ek ∙ e) (long-exactly t i .1 (ltb-true 65535 (length i) f)))
     go false f = ltb-false 65535 (length i) f
 
-module _ (q t i : List ℕ) {v : Checked} (ev : v ≡ check.check q t) (accepted : v ≡ Accepted) {k : Conformity} (ek : k ≡ conformity t i) where
+module _ (q t i : List ℕ) (accepted : check.check q t ≡ Accepted) {k : Conformity} (ek : k ≡ conformity t i) where
   -- what an accepted query's evaluation comes to
   tied-accepted : (c : Checked) (a : Answer) (b : Bool) (n : ℕ) → c ≡ Accepted → Tied q t i c a b n → a ≡ answerIf (conformity t i) b n
   tied-accepted Accepted a b n e h = h
@@ -242,7 +245,7 @@ module _ (q t i : List ℕ) {v : Checked} (ev : v ≡ check.check q t) (accepted
 
   pub evaluates : evaluate q t i ≡ answerIf k (truthCall q t i (callOf q t)) (steps q t i)
   evaluates =
-      tied-accepted (check.check q t) (evaluate q t i) (truthCall q t i (callOf q t)) (steps q t i) (sym ev ∙ accepted) (tied q t i)
+      tied-accepted (check.check q t) (evaluate q t i) (truthCall q t i (callOf q t)) (steps q t i) accepted (tied q t i)
       ∙ ap (λ (x : Conformity). answerIf x (truthCall q t i (callOf q t)) (steps q t i)) (sym ek)
 
   pub evaluate-nonconforming : (c : InstanceFault) (p : ℕ) → k ≡ conformity.Fault c p → answers.Refused (record { cause = cause.Instance c; place = p }) ≡ evaluate q t i
@@ -251,7 +254,7 @@ module _ (q t i : List ℕ) {v : Checked} (ev : v ≡ check.check q t) (accepted
   call-refused : (c : Rattle.filter.specs.declared.refusal.Cause.Cause) (p : ℕ) → callOf q t ≡ refused c p → ⊥
   unfolding check.check
   call-refused c p e =
-      let f : Accepted ≡ checkCall q t (refused c p) = sym accepted ∙ ev ∙ ap (checkCall q t) e in
+      let f : Accepted ≡ checkCall q t (refused c p) = sym accepted ∙ ap (checkCall q t) e in
       let z : _≡_ {A = ℕ} 0 1 = cc in
       omega arith
 

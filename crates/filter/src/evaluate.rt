@@ -26,6 +26,7 @@ ghost use lib.ListN.{length};
 ghost use Rattle.syntax.specs.Scan.{scan};
 ghost use Rattle.query_text.specs.Query.{queryFrom, query};
 ghost use Rattle.short_circuit.specs.Walk.{told, initial, stepsIf, walkQuery};
+ghost use Rattle.filter.specs.Check as Check;
 ghost use Rattle.filter.specs.Evaluate as Evaluate;
 ghost use Rattle.filter.specs.Answers.{truthIn, stepsIn};
 
@@ -104,18 +105,26 @@ fn answer_of(x: Told) -> Answer
     Answer::Excluded(x.steps)
 }
 
+// Of a query that the check accepts: whether it includes the instance, and in how many steps. Whoever evaluates many instances checks once.
+pub fn evaluate_accepted<'a>(query: &'a [u8], table: &'a [u8], instance: &'a [u8]) -> Answer
+    requires { ⌜ Check.check (now query) (now table) ≡ Checked.Accepted ⌝ }
+    ensures { λ r. ⌜ r ≡ Evaluate.evaluate (now (query .entry)) (now (table .entry)) (now (instance .entry)) ⌝ }
+{
+    match check_instance(table, instance) {
+        Conformity::Fault { cause, place } => Answer::Refused(Refusal {
+            cause: Cause::Instance(cause),
+            place,
+        }),
+        Conformity::Conforming => answer_of(walk(query, table, instance)),
+    }
+}
+
 // Whether the query includes the instance, and in how many steps.
 pub fn evaluate<'a>(query: &'a [u8], table: &'a [u8], instance: &'a [u8]) -> Answer
     ensures { λ r. ⌜ r ≡ Evaluate.evaluate (now (query .entry)) (now (table .entry)) (now (instance .entry)) ⌝ }
 {
     match check(query, table) {
         Checked::Refused(r) => Answer::Refused(r),
-        Checked::Accepted => match check_instance(table, instance) {
-            Conformity::Fault { cause, place } => Answer::Refused(Refusal {
-                cause: Cause::Instance(cause),
-                place,
-            }),
-            Conformity::Conforming => answer_of(walk(query, table, instance)),
-        },
+        Checked::Accepted => evaluate_accepted(query, table, instance),
     }
 }

@@ -5,66 +5,33 @@ use Rattle.filter.proofs.evaluate.evaluate.Tie as tie
 use Rattle.filter.proofs.evaluate.evaluate.Reads as reads
 use Rattle.filter.proofs.evaluate.evaluate.Lts as lts
 use Rattle.filter.proofs.check.check.Reads as check-reads
-use Rattle.filter.proofs.evaluate.answer_of.Reads as answer-of-reads
-use Rattle.filter.proofs.evaluate.walk.Reads as walk-reads
-use Rattle.instance.proofs.conform.check_instance.Reads as check-instance-reads
+use Rattle.filter.proofs.evaluate.evaluate_accepted.Reads as evaluate-accepted-reads
 
--- src/evaluate.rt:111:11
+-- src/evaluate.rt:126:11
 check-requires : tie.Need-check-requires
 check-requires c κs = search needs
 
--- src/evaluate.rt:112:26
+-- src/evaluate.rt:127:26
 enum-known-r : tie.Need-enum-known-r
 enum-known-r c = search needs
 
--- src/evaluate.rt:113:36
+-- src/evaluate.rt:128:30
 enum-told : tie.Need-enum-told
 enum-told c = search needs
 
--- src/evaluate.rt:113:36
-check-instance-requires : tie.Need-check-instance-requires
-check-instance-requires c κs = search needs
+-- src/evaluate.rt:128:30
+evaluate-accepted-requires : tie.Need-evaluate-accepted-requires
+evaluate-accepted-requires c κs = search law.accepts
 
--- src/evaluate.rt:114:33
-enum-known-cause : tie.Need-enum-known-cause
-enum-known-cause c = search needs
-
--- src/evaluate.rt:118:49
-enum-told-2 : tie.Need-enum-told-2
-enum-told-2 c = search needs
-
--- src/evaluate.rt:118:49
-walk-requires : tie.Need-walk-requires
-walk-requires c κs = search law.short
-
--- src/evaluate.rt:118:39
-answer-of-requires : tie.Need-answer-of-requires
-answer-of-requires c κs = search needs
-
--- src/evaluate.rt:108:1
+-- src/evaluate.rt:123:1
 returns : tie.Need-returns
 returns c = search law.evaluate-refused
 
--- src/evaluate.rt:108:1
+-- src/evaluate.rt:123:1
 returns-2 : tie.Need-returns-2
-returns-2 c = search law.evaluate-nonconforming
-
--- src/evaluate.rt:108:1
-returns-3 : tie.Need-returns-3
-returns-3 c = search law.evaluate-answers
+returns-2 c = search needs
 
 pub evaluate-spec : {M : Type 1} → statement M
 evaluate-spec =
     tie.close
-    (tie.spec
-    check-requires
-    enum-known-r
-    enum-told
-    check-instance-requires
-    enum-known-cause
-    enum-told-2
-    walk-requires
-    answer-of-requires
-    returns
-    returns-2
-    returns-3)
+    (tie.spec check-requires enum-known-r enum-told evaluate-accepted-requires returns returns-2)
