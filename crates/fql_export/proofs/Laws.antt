@@ -1,5 +1,5 @@
 -- One law for each exit of `src/`.
-use Prim.Native.Nat.{ℕ}
+use Prim.Native.Nat.{ℕ, _-_}
 use mathlib.Core.Path.{_≡_, refl, sym, ap, _∙_}
 use Rattle.filter.specs.Refusal.{numberOf}
 use Rattle.filter.specs.declared.refusal.Refusal.{Refusal}
@@ -7,9 +7,19 @@ use Rattle.filter.specs.declared.refusal.Checked.{Checked}
 use Rattle.filter.specs.declared.refusal.Checked.the-variants as checked
 use Rattle.filter.specs.declared.refusal.Answer.{Answer}
 use Rattle.filter.specs.declared.refusal.Answer.the-variants as answer
+use Rattle.fault_text.specs.declared.Shown.{Shown}
+use Rattle.fault_text.specs.declared.Shown.the-variants.{Nothing, Query, Table}
+use Rattle.fault_text.specs.FaultText.{shownOf}
+use Rattle.run.specs.declared.totals.Totals.{Totals}
+use Rattle.mark.specs.Mark as mark
+use Rattle.mark.specs.declared.refusal.MarkRefusal.{MarkRefusal}
+use Rattle.mark.specs.declared.refusal.Marked.{Marked}
+use Rattle.mark.specs.declared.refusal.Marked.the-variants as marked
 use Rattle.fql_export.specs.declared.FqlRefusal.{FqlRefusal}
 use Rattle.fql_export.specs.declared.FqlAnswer.{FqlAnswer}
-use Rattle.fql_export.specs.Answers.{refusalOf, answerOf}
+use Rattle.fql_export.specs.declared.FqlTotals.{FqlTotals}
+use Rattle.fql_export.specs.declared.FqlPart.{FqlPart}
+use Rattle.fql_export.specs.Answers.{refusalOf, answerOf, totalsOf, partOf}
 
 module _ (c : Checked) where
   pub refusal-none : c ≡ checked.Accepted → record { number = 0; place = 0 } ≡ refusalOf c
@@ -27,6 +37,27 @@ module _ (a : Answer) where
 
   pub answer-refused : (r : Refusal) → a ≡ answer.Refused r → {n : ℕ} → n ≡ numberOf (r .cause) → record { number = n; place = r .place; included = 0; steps = 0 } ≡ answerOf a
   answer-refused r e en = rw (e, en) refl
+
+module _ (m : Marked) where
+  pub totals-counted : (x : Totals) → m ≡ marked.Totals x → record { number = 0; place = 0; included = x .included; excluded = x .excluded; failed = x .failed } ≡ totalsOf m
+  totals-counted x e = rw e refl
+
+  pub totals-refused : (r : MarkRefusal) → m ≡ marked.Refused r → {n : ℕ} → n ≡ mark.numberOf (r .cause)
+      → record { number = n; place = r .place; included = 0; excluded = 0; failed = 0 } ≡ totalsOf m
+  totals-refused r e en = rw (e, en) refl
+
+module _ (ql tl n p : ℕ) {x : Shown} (e : x ≡ shownOf ql tl n p) where
+  pub part-none : x ≡ Nothing → record { source = 0; start = 0; length = 0 } ≡ partOf (shownOf ql tl n p) ql tl p
+  part-none f = rw (← e, f) refl
+
+  pub part-query : x ≡ Query → record { source = 1; start = p; length = ql - p } ≡ partOf (shownOf ql tl n p) ql tl p
+  part-query f = rw (← e, f) refl
+
+  pub part-table : x ≡ Table → record { source = 2; start = p; length = tl - p } ≡ partOf (shownOf ql tl n p) ql tl p
+  part-table f = rw (← e, f) refl
+
+pub of-mark : {a b : Marked} {r : FqlTotals} → a ≡ b → r ≡ totalsOf a → r ≡ totalsOf b
+of-mark e h = h ∙ ap totalsOf e
 
 pub of-check : {c d : Checked} {r : FqlRefusal} → c ≡ d → r ≡ refusalOf c → r ≡ refusalOf d
 of-check e h = h ∙ ap refusalOf e

@@ -5,8 +5,15 @@ use Rattle.filter.specs.declared.refusal.Checked.{Checked}
 use Rattle.filter.specs.declared.refusal.Checked.the-variants as checked
 use Rattle.filter.specs.declared.refusal.Answer.{Answer}
 use Rattle.filter.specs.declared.refusal.Answer.the-variants as answer
+use Rattle.fault_text.specs.declared.Shown.{Shown}
+use Rattle.fault_text.specs.Part as part
+use Rattle.mark.specs.Mark as mark
+use Rattle.mark.specs.declared.refusal.Marked.{Marked}
+use Rattle.mark.specs.declared.refusal.Marked.the-variants as marked
 use Rattle.fql_export.specs.declared.FqlRefusal.{FqlRefusal}
 use Rattle.fql_export.specs.declared.FqlAnswer.{FqlAnswer}
+use Rattle.fql_export.specs.declared.FqlTotals.{FqlTotals}
+use Rattle.fql_export.specs.declared.FqlPart.{FqlPart}
 
 abbrev pub refusalOf : Checked → FqlRefusal
 refusalOf checked.Accepted = record { number = 0; place = 0 }
@@ -16,3 +23,11 @@ abbrev pub answerOf : Answer → FqlAnswer
 answerOf (answer.Included n) = record { number = 0; place = 0; included = 1; steps = n }
 answerOf (answer.Excluded n) = record { number = 0; place = 0; included = 0; steps = n }
 answerOf (answer.Refused r) = record { number = numberOf (r .cause); place = r .place; included = 0; steps = 0 }
+
+abbrev pub totalsOf : Marked → FqlTotals
+totalsOf (marked.Totals x) = record { number = 0; place = 0; included = x .included; excluded = x .excluded; failed = x .failed }
+totalsOf (marked.Refused r) = record { number = mark.numberOf (r .cause); place = r .place; included = 0; excluded = 0; failed = 0 }
+
+-- fault_text/specs/Part
+abbrev pub partOf : Shown → (queryLength tableLength place : ℕ) → FqlPart
+partOf x ql tl p = let y = part.partOf x ql tl p in record { source = y .source; start = y .start; length = y .length }

@@ -1,13 +1,20 @@
-// C functions over the engine, for agents and for the tests in `rust/`.
+// C functions over the engine, for agents; include/fql.h declares them. A slice is lent as a pointer and a length.
+use fault_text::Shown;
+use fault_text::shown_of;
 use filter::check::check;
 use filter::evaluate::evaluate;
 use filter::refusal::Answer;
 use filter::refusal::Checked;
 use filter::refusal::number_of;
+use mark::mark::mark;
+use mark::refusal::Marked;
 ghost use mathlib.Core.Path.{_≡_};
+ghost use lib.ListN.{length};
 ghost use Rattle.filter.specs.Check as Check;
 ghost use Rattle.filter.specs.Evaluate as Evaluate;
-ghost use Rattle.fql_export.specs.Answers.{refusalOf, answerOf};
+ghost use Rattle.mark.specs.Mark as Mark;
+ghost use Rattle.fault_text.specs.FaultText.{shownOf};
+ghost use Rattle.fql_export.specs.Answers.{refusalOf, answerOf, totalsOf, partOf};
 
 // A refusal's number and place; number 0 where there is none.
 #[repr(C)]
@@ -23,6 +30,24 @@ pub struct FqlAnswer {
     pub place: u64,
     pub included: u64,
     pub steps: u64,
+}
+
+// Where the number is 0, how many instances of the run are included, are excluded and failed.
+#[repr(C)]
+pub struct FqlTotals {
+    pub number: u64,
+    pub place: u64,
+    pub included: u64,
+    pub excluded: u64,
+    pub failed: u64,
+}
+
+// Which text (0 none, 1 the query, 2 the table), from which byte on, and how many bytes of it.
+#[repr(C)]
+pub struct FqlPart {
+    pub source: u64,
+    pub start: u64,
+    pub length: u64,
 }
 
 fn refusal_of(c: Checked) -> FqlRefusal
@@ -71,6 +96,30 @@ fn answer_of(a: Answer) -> FqlAnswer
     }
 }
 
+fn totals_of(m: Marked) -> FqlTotals
+    ensures { λ r. ⌜ r ≡ totalsOf m ⌝ }
+{
+    match m {
+        Marked::Totals(x) => FqlTotals {
+            number: 0,
+            place: 0,
+            included: x.included as u64,
+            excluded: x.excluded as u64,
+            failed: x.failed as u64,
+        },
+        Marked::Refused(x) => {
+            let cause = x.cause;
+            FqlTotals {
+                number: mark::refusal::number_of(cause) as u64,
+                place: x.place as u64,
+                included: 0,
+                excluded: 0,
+                failed: 0,
+            }
+        }
+    }
+}
+
 #[no_mangle]
 pub extern "C" fn fql_check<'a>(query: &'a [u8], table: &'a [u8]) -> FqlRefusal
     ensures { λ r. ⌜ r ≡ refusalOf (Check.check (now (query .entry)) (now (table .entry))) ⌝ }
@@ -87,4 +136,45 @@ pub extern "C" fn fql_evaluate<'a>(
     ensures { λ r. ⌜ r ≡ answerOf (Evaluate.evaluate (now (query .entry)) (now (table .entry)) (now (instance .entry))) ⌝ }
 {
     answer_of(evaluate(query, table, instance))
+}
+
+#[no_mangle]
+pub extern "C" fn fql_mark<'a>(
+    query: &'a [u8],
+    table: &'a [u8],
+    run: &'a [u8],
+    marks: &mut [u8],
+) -> FqlTotals
+    ensures { λ r. ⌜ (r ≡ totalsOf (Mark.mark (now (query .entry)) (now (table .entry)) (now (run .entry)) (length (now (marks .entry))))) × (now (marks .exit) ≡ Mark.marksAfter (now (query .entry)) (now (table .entry)) (now (run .entry)) (now (marks .entry))) × (length (now (marks .exit)) ≡ length (now (marks .entry))) ⌝ }
+{
+    totals_of(mark(query, table, run, marks))
+}
+
+// The part is named and not lent: the caller holds both texts.
+#[no_mangle]
+pub extern "C" fn fql_fault_text<'a>(
+    query: &'a [u8],
+    table: &'a [u8],
+    number: u64,
+    place: u64,
+) -> FqlPart
+    ensures { λ r. ⌜ r ≡ partOf (shownOf (length (now (query .entry))) (length (now (table .entry))) number place) (length (now (query .entry))) (length (now (table .entry))) place ⌝ }
+{
+    match shown_of(query.len(), table.len(), number as usize, place as usize) {
+        Shown::Nothing => FqlPart {
+            source: 0,
+            start: 0,
+            length: 0,
+        },
+        Shown::Query => FqlPart {
+            source: 1,
+            start: place,
+            length: query.len() as u64 - place,
+        },
+        Shown::Table => FqlPart {
+            source: 2,
+            start: place,
+            length: table.len() as u64 - place,
+        },
+    }
 }

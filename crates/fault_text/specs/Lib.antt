@@ -1,0 +1,3 @@
+pub mod FaultText
+pub mod Part
+pub mod Examples

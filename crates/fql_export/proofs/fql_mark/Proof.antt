@@ -1,0 +1,27 @@
+use Rattle.fql_export.proofs.Laws as law
+use borrow.Author.Needs.{needs}
+use Rattle.fql_export.proofs.fql_mark.Statement.{statement}
+use Rattle.fql_export.proofs.fql_mark.Tie as tie
+use Rattle.fql_export.proofs.fql_mark.Reads as reads
+use Rattle.fql_export.proofs.fql_mark.Lts as lts
+use Rattle.fql_export.proofs.totals_of.Reads as totals-of-reads
+use Rattle.mark.proofs.mark.mark.Reads as mark-reads
+
+-- src/lib.rt:150:15
+mark-requires : tie.Need-mark-requires
+mark-requires c κs = search needs
+
+-- src/lib.rt:150:5
+totals-of-requires : tie.Need-totals-of-requires
+totals-of-requires c κs = search needs
+
+-- src/lib.rt:141:1
+same-length : tie.Need-same-length
+same-length c = search needs
+
+-- src/lib.rt:141:1
+returns : tie.Need-returns
+returns c = (search law.of-mark, search needs, search needs)
+
+pub fql-mark-spec : {M : Type 1} → statement M
+fql-mark-spec = tie.close (tie.spec mark-requires totals-of-requires same-length returns)
