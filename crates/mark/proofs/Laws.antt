@@ -11,7 +11,7 @@ use Rattle.filter.specs.Check.{check}
 use Rattle.filter.specs.declared.refusal.Refusal.{Refusal}
 use Rattle.filter.specs.declared.refusal.Checked.{Checked}
 use Rattle.filter.specs.declared.refusal.Checked.the-variants as checked
-use Rattle.mark.specs.declared.refusal.RunFault.the-variants.{Indivisible, MarksTooFew}
+use Rattle.run.specs.declared.fault.RunFault.the-variants.{Indivisible, MarksTooFew}
 use Rattle.mark.specs.declared.refusal.MarkCause.the-variants.{Call}
 use Rattle.mark.specs.declared.refusal.MarkRefusal.{MarkRefusal}
 use Rattle.mark.specs.declared.refusal.Marked.{Marked}

@@ -6,11 +6,12 @@ use lib.ListN.{length, drop}
 use lib.Dec.{ltb}
 use Rattle.base.specs.Pick.{pick}
 use Rattle.filter.specs.Refusal as call
+use Rattle.run.specs.Fault as run
 use Rattle.filter.specs.Check.{check}
 use Rattle.filter.specs.declared.refusal.Checked.{Checked}
 use Rattle.filter.specs.declared.refusal.Checked.the-variants as checked
-use Rattle.mark.specs.declared.refusal.RunFault.{RunFault}
-use Rattle.mark.specs.declared.refusal.RunFault.the-variants.{Indivisible, MarksTooFew}
+use Rattle.run.specs.declared.fault.RunFault.{RunFault}
+use Rattle.run.specs.declared.fault.RunFault.the-variants.{Indivisible, MarksTooFew}
 use Rattle.mark.specs.declared.refusal.MarkCause.{MarkCause}
 use Rattle.mark.specs.declared.refusal.MarkCause.the-variants.{Call, Run}
 use Rattle.mark.specs.declared.refusal.Marked.{Marked}
@@ -21,13 +22,9 @@ use Rattle.run.specs.Run.{runReading, instancesOf}
 use Rattle.run.specs.Totals.{answersOf, marksOf, totalsOf}
 
 -- 01's number of a cause
-abbrev pub runNumber : RunFault → ℕ
-runNumber Indivisible = 40
-runNumber MarksTooFew = 41
-
 abbrev pub numberOf : MarkCause → ℕ
 numberOf (Call c) = call.numberOf c
-numberOf (Run f) = runNumber f
+numberOf (Run f) = run.numberOf f
 
 abbrev pub refusedRun : RunFault → (place : ℕ) → Marked
 refusedRun f p = Refused (record { cause = Run f; place = p })

@@ -2,13 +2,13 @@
 use crate::refusal::MarkCause;
 use crate::refusal::MarkRefusal;
 use crate::refusal::Marked;
-use crate::refusal::RunFault;
 use base::bytes::piece;
 use filter::check::check;
 use filter::evaluate::evaluate_accepted;
 use filter::refusal::Checked;
 use record::read::RecordAt;
 use record::read::record_at;
+use run::fault::RunFault;
 use run::reading::RunReading;
 use run::reading::read_run;
 use run::totals::Totals;

@@ -1,2 +1,3 @@
+pub mod Fault
 pub mod Run
 pub mod Totals

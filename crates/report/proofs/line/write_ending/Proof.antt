@@ -1,0 +1,33 @@
+use Rattle.report.proofs.Laws as law
+use borrow.Author.Needs.{needs}
+use Rattle.report.proofs.line.write_ending.Statement.{statement}
+use Rattle.report.proofs.line.write_ending.Tie as tie
+use Rattle.report.proofs.line.write_ending.Reads as reads
+use Rattle.report.proofs.line.write_ending.Lts as lts
+use Rattle.text_writer.proofs.buffer.write_byte.Reads as write-byte-reads
+use Rattle.text_writer.proofs.decimal.write_decimal.Reads as write-decimal-reads
+
+-- src/line.rt:14:9
+write-byte-requires : tie.Need-write-byte-requires
+write-byte-requires c κs = search needs
+
+-- src/line.rt:15:9
+write-decimal-requires : tie.Need-write-decimal-requires
+write-decimal-requires c κs = search needs
+
+-- src/line.rt:16:5
+write-byte-requires-2 : tie.Need-write-byte-requires-2
+write-byte-requires-2 c κs = search needs
+
+-- src/line.rt:11:1
+same-length : tie.Need-same-length
+same-length c = search needs
+
+-- src/line.rt:11:1
+returns : tie.Need-returns
+returns c = search law.ending-written
+
+pub write-ending-spec : {M : Type 1} → statement M
+write-ending-spec =
+    tie.close
+    (tie.spec write-byte-requires write-decimal-requires write-byte-requires-2 same-length returns)

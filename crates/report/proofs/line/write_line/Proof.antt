@@ -1,0 +1,45 @@
+use Rattle.report.proofs.Laws as law
+use borrow.Author.Needs.{needs}
+use Rattle.report.proofs.line.write_line.Statement.{statement}
+use Rattle.report.proofs.line.write_line.Tie as tie
+use Rattle.report.proofs.line.write_line.Reads as reads
+use Rattle.report.proofs.line.write_line.Lts as lts
+use Rattle.text_writer.proofs.buffer.write_byte.Reads as write-byte-reads
+use Rattle.text_writer.proofs.buffer.write_text.Reads as write-text-reads
+use Rattle.text_writer.proofs.decimal.write_decimal.Reads as write-decimal-reads
+use Rattle.report.proofs.line.write_ending.Reads as write-ending-reads
+
+-- src/line.rt:22:9
+write-decimal-requires : tie.Need-write-decimal-requires
+write-decimal-requires c κs = search needs
+
+-- src/line.rt:23:9
+write-byte-requires : tie.Need-write-byte-requires
+write-byte-requires c κs = search needs
+
+-- src/line.rt:24:9
+write-text-requires : tie.Need-write-text-requires
+write-text-requires c κs = search needs
+
+-- src/line.rt:25:5
+write-ending-requires : tie.Need-write-ending-requires
+write-ending-requires c κs = search needs
+
+-- src/line.rt:19:1
+same-length : tie.Need-same-length
+same-length c = search needs
+
+-- src/line.rt:19:1
+returns : tie.Need-returns
+returns c = search law.line-written
+
+pub write-line-spec : {M : Type 1} → statement M
+write-line-spec =
+    tie.close
+    (tie.spec
+    write-decimal-requires
+    write-byte-requires
+    write-text-requires
+    write-ending-requires
+    same-length
+    returns)

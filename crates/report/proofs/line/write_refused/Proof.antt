@@ -1,0 +1,44 @@
+use Rattle.report.proofs.Laws as law
+use borrow.Author.Needs.{needs}
+use Rattle.report.proofs.line.write_refused.Statement.{statement}
+use Rattle.report.proofs.line.write_refused.Tie as tie
+use Rattle.report.proofs.line.write_refused.Reads as reads
+use Rattle.report.proofs.line.write_refused.Lts as lts
+use Rattle.text_writer.proofs.buffer.write_text.Reads as write-text-reads
+use Rattle.text_writer.proofs.decimal.write_decimal.Reads as write-decimal-reads
+use Rattle.report.proofs.line.write_ending.Reads as write-ending-reads
+
+-- src/line.rt:46:37
+slice-aggregate-write-text : tie.Need-slice-aggregate-write-text
+slice-aggregate-write-text c = search needs
+
+-- src/line.rt:46:9
+write-text-requires : tie.Need-write-text-requires
+write-text-requires c κs = search needs
+
+-- src/line.rt:47:9
+write-decimal-requires : tie.Need-write-decimal-requires
+write-decimal-requires c κs = search needs
+
+-- src/line.rt:48:5
+write-ending-requires : tie.Need-write-ending-requires
+write-ending-requires c κs = search needs
+
+-- src/line.rt:43:1
+same-length : tie.Need-same-length
+same-length c = search needs
+
+-- src/line.rt:43:1
+returns : tie.Need-returns
+returns c = search law.refused-written
+
+pub write-refused-spec : {M : Type 1} → statement M
+write-refused-spec =
+    tie.close
+    (tie.spec
+    slice-aggregate-write-text
+    write-text-requires
+    write-decimal-requires
+    write-ending-requires
+    same-length
+    returns)

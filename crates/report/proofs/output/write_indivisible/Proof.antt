@@ -1,0 +1,28 @@
+use Rattle.report.proofs.Writing as law
+use borrow.Author.Needs.{needs}
+use Rattle.report.proofs.output.write_indivisible.Statement.{statement}
+use Rattle.report.proofs.output.write_indivisible.Tie as tie
+use Rattle.report.proofs.output.write_indivisible.Reads as reads
+use Rattle.report.proofs.output.write_indivisible.Lts as lts
+use Rattle.report.proofs.line.write_refused.Reads as write-refused-reads
+use Rattle.run.proofs.fault.number_of.Reads as number-of-reads
+
+-- src/output.rt:53:27
+number-of-requires : tie.Need-number-of-requires
+number-of-requires c κs = search needs
+
+-- src/output.rt:53:5
+write-refused-requires : tie.Need-write-refused-requires
+write-refused-requires c κs = search needs
+
+-- src/output.rt:50:1
+same-length : tie.Need-same-length
+same-length c = search needs
+
+-- src/output.rt:50:1
+returns : tie.Need-returns
+returns c = search law.indivisible-written
+
+pub write-indivisible-spec : {M : Type 1} → statement M
+write-indivisible-spec =
+    tie.close (tie.spec number-of-requires write-refused-requires same-length returns)
