@@ -30,5 +30,6 @@ fn cases_give_what_they_were_made_for() {
 
 #[test]
 fn a_case_is_shown_as_a_line_of_a_test() {
-    assert_eq!(call(b"S = '\x01\\'", b"\x00", b"\xff"), r#"agree(b"S = \'\x01\\\'", b"\x00", b"\xff");"#);
+    let slices: [&[u8]; 3] = [b"S = '\x01\\'", b"\x00", b"\xff"];
+    assert_eq!(call("agree", &slices), r#"agree(b"S = \'\x01\\\'", b"\x00", b"\xff");"#);
 }

@@ -7,6 +7,7 @@ mod limit;
 mod literal;
 mod loose;
 mod pattern;
+pub mod run;
 mod source;
 mod spoil;
 pub mod spread;
@@ -51,9 +52,10 @@ impl Case {
     }
 }
 
-/// A line of a test that tries these bytes.
-pub fn call(query: &[u8], table: &[u8], instance: &[u8]) -> String {
-    format!("agree(b\"{}\", b\"{}\", b\"{}\");", query.escape_ascii(), table.escape_ascii(), instance.escape_ascii())
+/// A line of a test that calls a function with these bytes.
+pub fn call(function: &str, slices: &[&[u8]]) -> String {
+    let literals: Vec<String> = slices.iter().map(|bytes| format!("b\"{}\"", bytes.escape_ascii())).collect();
+    format!("{function}({});", literals.join(", "))
 }
 
 pub fn random(r: &mut Random) -> Case {

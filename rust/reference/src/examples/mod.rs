@@ -3,6 +3,7 @@
 
 pub mod datetimes;
 pub mod dsp0212;
+pub mod fault_texts;
 pub mod joins;
 pub mod kinds;
 pub mod limits;
@@ -10,7 +11,9 @@ pub mod literals;
 pub mod meaning;
 pub mod patterns;
 pub mod precedence;
+pub mod programs;
 pub mod records;
+pub mod runs;
 pub mod sample;
 pub mod setting;
 pub mod text;

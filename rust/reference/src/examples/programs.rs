@@ -1,0 +1,117 @@
+//! Files with what the program prints (01, "A fan to try", last part).
+
+use super::setting::{array, null, sample, text, truth, unsigned};
+use crate::program::Files;
+use crate::record::write;
+
+pub struct ProgramExample {
+    pub files: Files,
+    pub expected: &'static str,
+}
+
+pub fn examples() -> Vec<ProgramExample> {
+    let mut out = answered();
+    out.extend(refused_tables());
+    out.extend(refused_queries());
+    out.extend(runs());
+    out
+}
+
+fn tried(table: Vec<u8>, query: &[u8], run: Vec<u8>, expected: &'static str) -> ProgramExample {
+    ProgramExample { files: Files { table, query: query.to_vec(), run }, expected }
+}
+
+fn run(bodies: &[Vec<u8>]) -> Vec<u8> {
+    bodies.iter().flat_map(|body| write(0x0300, body)).collect()
+}
+
+/// The instances of 01's example.
+pub fn sample_run() -> Vec<u8> {
+    run(&[sample().instance(), vec![]])
+}
+
+const TEN_LINES: &str = "\
+1 included 1
+2 included 1
+3 included 1
+4 included 1
+5 included 1
+6 included 1
+7 included 1
+8 included 1
+9 included 1
+10 included 1
+";
+
+/// A line for each instance; a run of none prints nothing.
+fn answered() -> Vec<ProgramExample> {
+    let tried = |query: &str, run, expected| tried(sample().table(), query.as_bytes(), run, expected);
+    let off = sample().with("On", truth(false)).instance();
+    let long = sample().with("Name", text(&"n".repeat(60_000))).instance();
+    let many = sample().with("Dev", array(2, &vec![unsigned(9); 256])).instance();
+    vec![
+        tried("On = TRUE", sample_run(), "1 included 1\n2 failed 31\n"),
+        tried("Dev = {14,3}", sample_run(), "1 excluded 2\n2 failed 31\n"),
+        tried("On = TRUE", vec![], ""),
+        tried("On = TRUE", run(&[off, sample().instance()]), "1 excluded 1\n2 included 1\n"),
+        tried("Name LIKE 'n*'", run(&[long]), "1 included 60001\n"),
+        tried("ANY Dev = 8 OR ANY Dev = 9", run(&[many]), "1 included 259\n"),
+        tried("On = NULL\n", run(&vec![null().repeat(6); 10]), TEN_LINES),
+    ]
+}
+
+fn refused_tables() -> Vec<ProgramExample> {
+    let tried = |table, expected| tried(table, b"On = TRUE", sample_run(), expected);
+    let long = |n: usize| [sample().table(), vec![0; n - 48]].concat();
+    vec![
+        tried(vec![], "refused 2 0\n"),
+        tried([sample().table(), vec![0]].concat(), "refused 2 48\n"),
+        tried(long(8_192), "refused 2 48\n"),
+        tried(long(8_193), "refused 2 0\n"),
+        tried(long(70_000), "refused 2 0\n"),
+        tried([sample().table(), write(6, b"TEMP")].concat(), "refused 3 48\n"),
+    ]
+}
+
+fn refused_queries() -> Vec<ProgramExample> {
+    let tried = |query: &[u8], expected| tried(sample().table(), query, sample_run(), expected);
+    let blanks = |n: usize| format!("On = TRUE{}", " ".repeat(n - 9)).into_bytes();
+    let comparisons = vec!["On = TRUE"; 65].join(" OR ");
+    vec![
+        tried(&blanks(4_096), "1 included 1\n2 failed 31\n"),
+        tried(&blanks(4_097), "refused 1 0\n"),
+        tried(&blanks(70_000), "refused 1 0\n"),
+        tried(b"On = TRUE\xff", "refused 10 9\n"),
+        tried(b"", "refused 11 0\n"),
+        tried(b"On = TRUE AND", "refused 11 13\n"),
+        tried(b"Dev ANY 3", "refused 11 4\n"),
+        tried(comparisons.as_bytes(), "refused 12 832\n"),
+        tried(b"On = TRUE OR Zed = 1", "refused 20 13\n"),
+        tried(b"On = TRUE OR Dev = 1", "refused 22 13\n"),
+        tried(b"R = 5", "refused 21 0\n"),
+        tried(b"Temp < 18446744073709551616", "refused 23 7\n"),
+        tried(b"Name LIKE '['", "refused 24 10\n"),
+        tried(b"Since = '20051003112233.000000+00'", "refused 25 8\n"),
+    ]
+}
+
+/// A run over 65,536 bytes is 40 at 65536, in 40's turn, whatever it holds.
+fn runs() -> Vec<ProgramExample> {
+    let tried = |query: &str, run, expected| tried(sample().table(), query.as_bytes(), run, expected);
+    // One instance, 65,536 bytes with its four of length and kind.
+    let longest = |more: usize| {
+        let padding = write(0, &vec![0; 65_536 - 4 - 95 - 4 - 4]);
+        [run(&[[sample().instance(), padding].concat()]), run(&[vec![]]), vec![0; more]].concat()
+    };
+    vec![
+        tried("On = TRUE", longest(0), "1 included 1\n2 failed 31\n"),
+        tried("On = TRUE", longest(1), "refused 40 65536\n"),
+        tried("On = TRUE", longest(100_000), "refused 40 65536\n"),
+        tried("On = TRUE AND", longest(1), "refused 11 13\n"),
+        tried("On = TRUE", vec![0; 65_536], "refused 40 0\n"),
+        tried("On = TRUE", vec![0; 65_537], "refused 40 65536\n"),
+        tried("On = TRUE", [sample_run(), vec![0]].concat(), "refused 40 103\n"),
+        tried("On = TRUE", [sample_run(), write(0x0301, &[])].concat(), "refused 40 103\n"),
+        tried("Zed = 1", vec![0], "refused 20 0\n"),
+    ]
+}
