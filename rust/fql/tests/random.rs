@@ -2,20 +2,19 @@
 
 mod common;
 
-use common::agree;
+use common::{agree, for_each_seed};
 use reference::bound;
 use reference::cases::spread::Spread;
 use reference::cases::{call, random, Case};
 use reference::random::Random;
 
-const SEED: u64 = 20_260_101;
 const CASES: usize = 320_000;
 /// How often each refusal, verdict and form of comparison has to come up.
 const LEAST: usize = 500;
 
 fn try_case(case: &Case) -> Result<reference::Answer, reference::Refusal> {
     let found = agree(&case.query, &case.table, &case.instance);
-    let shown = || call(&case.query, &case.table, &case.instance);
+    let shown = || call("agree", &[&case.query, &case.table, &case.instance]);
     assert!(case.is_intended(found), "{}: both say {found:?} in place of {:?}:\n{}", case.sort, case.intended, shown());
     if let Ok(answer) = found {
         let most = bound(&case.query, &case.table, &case.instance).unwrap();
@@ -37,11 +36,7 @@ fn run(seed: u64) {
     spread.assert_at_least(LEAST);
 }
 
-/// With the fixed seed, and with the one in `FQL_SEED` if it is set.
 #[test]
 fn random_cases() {
-    run(SEED);
-    if let Ok(seed) = std::env::var("FQL_SEED") {
-        run(seed.parse().expect("FQL_SEED is a number"));
-    }
+    for_each_seed(run);
 }

@@ -10,7 +10,7 @@ fn hold(examples: Vec<Example>) {
     println!("{} examples", examples.len());
     for e in examples {
         let found = agree(&e.query, &e.table, &e.instance);
-        let shown = || call(&e.query, &e.table, &e.instance);
+        let shown = || call("agree", &[&e.query, &e.table, &e.instance]);
         assert!(e.expected.is(found), "both say {found:?} in place of {:?}:\n{}", e.expected, shown());
     }
 }

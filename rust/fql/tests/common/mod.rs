@@ -1,0 +1,60 @@
+//! The engine and the second evaluator on one input. A difference ends the test with a line that can be pasted into
+//! one.
+#![allow(dead_code)]
+
+use std::fmt::Debug;
+
+use reference::cases::call;
+use reference::{Answer, FaultText, Refusal, Totals};
+
+fn refusal(r: fql::Refusal) -> Refusal {
+    Refusal { number: r.cause.number(), place: r.place }
+}
+
+fn answer(a: fql::Answer) -> Answer {
+    Answer { included: a.verdict == fql::Verdict::Included, steps: a.steps }
+}
+
+fn totals(t: fql::Totals) -> Totals {
+    Totals { included: t.included, excluded: t.excluded, failed: t.failed }
+}
+
+fn same<T: PartialEq + Debug>(found: T, expected: T, shown: impl Fn() -> String) -> T {
+    assert!(found == expected, "the engine says {found:?}, the second evaluator {expected:?}:\n{}", shown());
+    found
+}
+
+/// What both say of a query on an instance: verdict and steps, or number and place.
+pub fn agree(query: &[u8], table: &[u8], instance: &[u8]) -> Result<Answer, Refusal> {
+    let shown = || call("agree", &[query, table, instance]);
+    let _ = same(fql::check(query, table).map_err(refusal), reference::check(query, table), shown);
+    let found = fql::evaluate(query, table, instance).map(answer).map_err(refusal);
+    same(found, reference::evaluate(query, table, instance), shown)
+}
+
+/// What both say of a query on a run, and the marks that both leave behind.
+pub fn agree_on_marks(query: &[u8], table: &[u8], run: &[u8], marks: &[u8]) -> (Result<Totals, Refusal>, Vec<u8>) {
+    let (mut found, mut expected) = (marks.to_vec(), marks.to_vec());
+    let totals = fql::mark(query, table, run, &mut found).map(totals).map_err(refusal);
+    let expected_totals = reference::mark(query, table, run, &mut expected);
+    same((totals, found), (expected_totals, expected), || call("agree_on_marks", &[query, table, run, marks]))
+}
+
+/// The text at a fault as both show it.
+pub fn agree_on_fault_text<'a>(query: &'a [u8], table: &'a [u8], number: u64, place: u64) -> FaultText<'a> {
+    let found = match fql::fault_text(query, table, number, place) {
+        fql::FaultText::Nothing => FaultText::Nothing,
+        fql::FaultText::Query(part) => FaultText::Query(part),
+        fql::FaultText::Table(part) => FaultText::Table(part),
+    };
+    let shown = || format!("{number} at {place}: {}", call("agree_on_fault_text", &[query, table]));
+    same(found, reference::fault_text(query, table, number, place), shown)
+}
+
+/// Runs a random test with its fixed seed, and once more with the one in `FQL_SEED` if it is set.
+pub fn for_each_seed(run: impl Fn(u64)) {
+    run(20_260_101);
+    if let Ok(seed) = std::env::var("FQL_SEED") {
+        run(seed.parse().expect("FQL_SEED is a number"));
+    }
+}
