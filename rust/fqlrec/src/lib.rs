@@ -1,0 +1,56 @@
+//! Tables and runs of the filter engine as readable text, and refusals explained.
+//!
+//! A text is a table and the instances of a run:
+//!
+//! - `class NAME` opens the table. Below it, indented, stands a property on each line, `NAME TYPE` or `NAME TYPE[]`, with
+//!   one of the types boolean, unsigned, signed, real32, real64, string, char16, octets, datetime, reference.
+//! - `instance` opens an instance. Below it, indented, stand values, `NAME = VALUE`, in the table's order; one that ends
+//!   early is an instance with fewer records.
+//! - Values are `TRUE`, `-5`, `0.5`, `'text'` with the escapes of a query, `0x0102` for octets, `{3, NULL}` for an array,
+//!   and `NULL`. A real that isn't finite is written by its bits, as `0x7FF0000000000000`.
+//! - `record 0x0102 0A0B` is a record by its kind and body, in place of a property, a value or an instance; `bytes 0A0B`
+//!   are bytes that are no record, at the end of a table, an instance or the run. With `table` in place of `class` a table
+//!   starts without a class. So every file has a text, malformed ones included.
+//! - `#` starts a comment.
+//!
+//! ```
+//! let text = "\
+//! class P
+//!     On   boolean
+//!     Dev  unsigned[]
+//! instance
+//!     On  = TRUE
+//!     Dev = {3, 14}
+//! instance
+//! ";
+//! let files = fqlrec::read(text.as_bytes()).unwrap();
+//! assert_eq!(files.table, b"\x01\0\0\x02P\x02\0\x01\0On\x03\0\x02\x01Dev");
+//! assert_eq!(fqlrec::show(&files), text);
+//! ```
+
+mod columns;
+mod explain;
+mod faulty;
+mod hex;
+mod line;
+mod place;
+mod problem;
+mod quoted;
+mod read;
+mod records;
+mod show;
+mod table;
+mod types;
+mod value;
+
+pub use explain::{explain, Explanation};
+pub use problem::Problem;
+pub use read::read;
+pub use show::show;
+
+/// A table and a run as bytes.
+#[derive(Clone, Debug, Default, PartialEq, Eq)]
+pub struct Files {
+    pub table: Vec<u8>,
+    pub run: Vec<u8>,
+}

@@ -1,0 +1,66 @@
+//! The record tool: tables and runs as text and back, and refusals explained.
+
+use std::fs;
+use std::io::Write;
+use std::path::Path;
+use std::process::ExitCode;
+
+use fqlrec::{explain, read, show, Files};
+
+const USAGE: &str = "\
+usage: fqlrec write FILE FOLDER    write FOLDER/table and FOLDER/run from the text in FILE
+       fqlrec show FOLDER          print FOLDER/table and FOLDER/run as text
+       fqlrec explain FOLDER       tell whether FOLDER/query is accepted, or where and why not
+
+The exit status is 0, 1 if FOLDER/query, table or run is refused, 2 if a file or an argument is wrong.
+";
+
+fn main() -> ExitCode {
+    let arguments: Vec<String> = std::env::args().skip(1).collect();
+    let arguments: Vec<&str> = arguments.iter().map(String::as_str).collect();
+    let result = match arguments[..] {
+        ["write", file, folder] => write_files(file, Path::new(folder)).map(|()| true),
+        ["show", folder] => print_text(Path::new(folder)).map(|()| true),
+        ["explain", folder] => print_explanation(Path::new(folder)),
+        _ => Err(USAGE.trim_end().to_owned()),
+    };
+    match result {
+        Ok(true) => ExitCode::SUCCESS,
+        Ok(false) => ExitCode::from(1),
+        Err(what) => {
+            eprintln!("{what}");
+            ExitCode::from(2)
+        }
+    }
+}
+
+fn load(path: &Path) -> Result<Vec<u8>, String> {
+    fs::read(path).map_err(|e| format!("{}: {e}", path.display()))
+}
+
+fn store(path: &Path, bytes: &[u8]) -> Result<(), String> {
+    fs::write(path, bytes).map_err(|e| format!("{}: {e}", path.display()))
+}
+
+fn print(text: &str) -> Result<(), String> {
+    std::io::stdout().write_all(text.as_bytes()).map_err(|e| format!("standard output: {e}"))
+}
+
+fn write_files(file: &str, folder: &Path) -> Result<(), String> {
+    let files = read(&load(Path::new(file))?).map_err(|problem| format!("{file}:{problem}"))?;
+    fs::create_dir_all(folder).map_err(|e| format!("{}: {e}", folder.display()))?;
+    store(&folder.join("table"), &files.table)?;
+    store(&folder.join("run"), &files.run)
+}
+
+fn print_text(folder: &Path) -> Result<(), String> {
+    print(&show(&Files { table: load(&folder.join("table"))?, run: load(&folder.join("run"))? }))
+}
+
+/// Whether all is accepted.
+fn print_explanation(folder: &Path) -> Result<bool, String> {
+    let [query, table, run] = ["query", "table", "run"].map(|name| load(&folder.join(name)));
+    let explanation = explain(&query?, &table?, &run?);
+    print(&explanation.text)?;
+    Ok(explanation.accepted)
+}

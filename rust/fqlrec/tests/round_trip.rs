@@ -1,0 +1,99 @@
+//! Bytes to text and back give the same bytes, whatever they are; text to bytes and back gives the normal form.
+
+use fqlrec::{read, show, Files};
+use reference::cases::{self, run};
+use reference::examples::setting::{sample, types};
+use reference::random::Random;
+use reference::record::write;
+
+fn round_trip(table: &[u8], run: &[u8]) -> String {
+    let files = Files { table: table.to_vec(), run: run.to_vec() };
+    let text = show(&files);
+    let again = read(text.as_bytes()).unwrap_or_else(|problem| panic!("{problem}\n{text}"));
+    assert_eq!(again, files, "{text}");
+    assert_eq!(show(&again), text);
+    text
+}
+
+fn instance(body: &[u8]) -> Vec<u8> {
+    write(0x0300, body)
+}
+
+#[test]
+fn of_random_and_damaged_runs() {
+    let mut r = Random::for_test("runs");
+    let mut with_words = 0;
+    for _ in 0..1_500 {
+        let case = run::random(&mut r);
+        let text = round_trip(&case.table, &case.run);
+        with_words += usize::from(text.starts_with("class") && text.contains(" = "));
+        round_trip(&r.damage(&case.table), &r.damage(&case.run));
+    }
+    assert!(with_words >= 1_000, "only {with_words} texts have words for their bytes");
+}
+
+#[test]
+fn of_random_and_damaged_instances() {
+    let mut r = Random::for_test("instances");
+    for _ in 0..1_500 {
+        let case = cases::random(&mut r);
+        if case.instance.len() < 65_500 {
+            round_trip(&case.table, &instance(&case.instance));
+            let damaged = r.damage(&case.instance);
+            round_trip(&case.table, &[instance(&damaged), instance(&case.instance)].concat());
+        }
+    }
+}
+
+#[test]
+fn of_random_bytes() {
+    let mut r = Random::for_test("bytes");
+    let bytes = |r: &mut Random| -> Vec<u8> {
+        let n = r.below(40);
+        // Small numbers, so that lengths and kinds often fit.
+        (0..n).map(|_| if r.chance(3) { r.byte() } else { r.pick(&[0, 0, 0, 1, 2, 3, 6, 8, b'A', b'_']) }).collect()
+    };
+    for _ in 0..5_000 {
+        let (table, run, body) = (bytes(&mut r), bytes(&mut r), bytes(&mut r));
+        round_trip(&table, &run);
+        round_trip(&table, &instance(&body));
+        round_trip(&types().table(), &[instance(&body), run].concat());
+    }
+}
+
+/// Each record of the instance, with random bodies of the right and of the wrong length.
+#[test]
+fn of_values_of_every_type() {
+    let mut r = Random::for_test("values");
+    let kinds = [1, 2, 3, 4, 5, 6, 7, 8, 9, 10];
+    for _ in 0..5_000 {
+        let kind = r.pick(&kinds);
+        let n = r.pick(&[0, 1, 2, 4, 8, 8, 8, 25]);
+        let body: Vec<u8> = (0..n).map(|_| if r.chance(2) { r.byte() } else { r.pick(&[0, 1, 0x7f, 0xff]) }).collect();
+        let scalar = write(kind, &body);
+        let array = write(kind | 0x0100, &[scalar.clone(), write(0, &[]), scalar.clone()].concat());
+        let table = [write(0x0200, b"P"), write(kind, b"x"), write(kind | 0x0100, b"xs")].concat();
+        round_trip(&table, &instance(&[scalar, array].concat()));
+    }
+}
+
+/// Every kind of empty, and a whole that is broken at each byte.
+#[test]
+fn of_cut_files() {
+    assert_eq!(round_trip(&[], &[]), "");
+    assert_eq!(round_trip(&[], &instance(&[])), "instance\n");
+    let run = [instance(&sample().instance()), instance(&types().instance())].concat();
+    for cut in 0..=run.len() {
+        round_trip(&sample().table(), &run[..cut]);
+    }
+    for cut in 0..=types().table().len() {
+        round_trip(&types().table()[..cut], &run);
+    }
+}
+
+#[test]
+fn of_the_longest_records() {
+    let longest = write(6, "x".repeat(65_531).as_bytes());
+    round_trip(&[write(0x0200, b"P"), write(6, b"S")].concat(), &instance(&longest));
+    round_trip(&write(0xffff, &vec![0xff; 65_535]), &write(1, &vec![1; 65_535]));
+}
