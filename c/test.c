@@ -1,0 +1,200 @@
+/* The four functions as a C program calls them. */
+#include <stdio.h>
+#include <stdlib.h>
+#include <string.h>
+
+#include "fql.h"
+#include "sample.h"
+
+static int checked, wrong;
+
+/* Not assert.h's, which NDEBUG takes out. */
+static void expect(int holds, const char *what, int line) {
+    checked++;
+    if (!holds) {
+        wrong++;
+        printf("c/test.c:%d: wrong: %s\n", line, what);
+    }
+}
+
+#define EXPECT(holds) expect((holds), #holds, __LINE__)
+
+static fql_refusal check(const char *query, const buffer *table) {
+    return fql_check((const uint8_t *)query, strlen(query), table->bytes, table->length);
+}
+
+static fql_answer evaluate(const char *query, const buffer *table, const buffer *instance) {
+    return fql_evaluate((const uint8_t *)query, strlen(query), table->bytes, table->length, instance->bytes, instance->length);
+}
+
+static fql_totals mark(const char *query, const buffer *table, const buffer *run, uint8_t *marks, size_t marks_length) {
+    return fql_mark((const uint8_t *)query, strlen(query), table->bytes, table->length, run->bytes, run->length, marks, marks_length);
+}
+
+static int is_refusal(fql_refusal found, uint64_t number, uint64_t place) {
+    return found.number == number && found.place == place;
+}
+
+static int is_answer(fql_answer found, uint64_t included, uint64_t steps) {
+    return found.number == 0 && found.place == 0 && found.included == included && found.steps == steps;
+}
+
+static int is_failure(fql_answer found, uint64_t number, uint64_t place) {
+    return found.number == number && found.place == place && found.included == 0 && found.steps == 0;
+}
+
+static int is_part(fql_part found, uint64_t source, uint64_t start, uint64_t length) {
+    return found.source == source && found.start == start && found.length == length;
+}
+
+static void sample_answers(void) {
+    buffer table = sample_table(), instance = sample_instance(1), off = sample_instance(0);
+    EXPECT(table.length == 48);
+    EXPECT(instance.length == 95);
+    EXPECT(is_refusal(check("On = TRUE", &table), 0, 0));
+    EXPECT(is_answer(evaluate("On = TRUE", &table, &instance), 1, 1));
+    EXPECT(is_answer(evaluate("On = TRUE", &table, &off), 0, 1));
+    EXPECT(is_answer(evaluate("Dev = {3,14}", &table, &instance), 1, 3));
+    EXPECT(is_answer(evaluate("Dev = {14,3}", &table, &instance), 0, 2));
+    EXPECT(is_answer(evaluate("ANY Dev = 14", &table, &instance), 1, 3));
+    EXPECT(is_answer(evaluate("NOT EVERY Dev = 3", &table, &instance), 1, 3));
+    EXPECT(is_answer(evaluate("Dev[2] = NULL", &table, &instance), 1, 1));
+    EXPECT(is_answer(evaluate("Name NOT LIKE 'FAN_.*'", &table, &instance), 0, 6));
+    EXPECT(is_answer(evaluate("Temp > 0 AND On = TRUE OR R = .5", &table, &instance), 1, 2));
+    EXPECT(is_answer(evaluate("Temp < 18446744073709551615", &table, &instance), 1, 1));
+    EXPECT(is_answer(evaluate("Since = '20051003122233.000000+060'", &table, &instance), 1, 1));
+}
+
+static void refusals_of_queries(void) {
+    buffer table = sample_table(), instance = sample_instance(1);
+    char many[65 * 13] = "";
+    for (int n = 0; n < 65; n++) strcat(many, n == 0 ? "On = TRUE" : " OR On = TRUE");
+    static uint8_t blanks[4097];
+    memset(blanks, ' ', sizeof blanks);
+    const struct {
+        const char *query;
+        uint64_t number, place;
+    } refused[] = {
+        {"", FQL_GRAMMAR, 0},
+        {"On = TRUE AND", FQL_GRAMMAR, 13},
+        {"Dev ANY 3", FQL_GRAMMAR, 4},
+        {"On = '\xff'", FQL_ENCODING, 6},
+        {many, FQL_COUNT, 64 * 13},
+        {"On = TRUE OR Zed = 1", FQL_UNKNOWN_NAME, 13},
+        {"Dev = 3", FQL_SHAPE, 0},
+        {"R = 5", FQL_KIND, 0},
+        {"Temp < 18446744073709551616", FQL_RANGE, 7},
+        {"Name LIKE '('", FQL_PATTERN, 10},
+        {"Since = 'x'", FQL_DATETIME, 8},
+    };
+    for (size_t n = 0; n < sizeof refused / sizeof refused[0]; n++) {
+        EXPECT(is_refusal(check(refused[n].query, &table), refused[n].number, refused[n].place));
+        EXPECT(is_failure(evaluate(refused[n].query, &table, &instance), refused[n].number, refused[n].place));
+    }
+    EXPECT(is_refusal(fql_check(blanks, 4096, table.bytes, table.length), FQL_GRAMMAR, 4096));
+    EXPECT(is_refusal(fql_check(blanks, 4097, table.bytes, table.length), FQL_QUERY_LENGTH, 0));
+}
+
+static void refusals_of_tables_and_instances(void) {
+    buffer table = sample_table(), twice = table, cut = table, empty = {{0}, 0}, instance = sample_instance(1);
+    put_text(&twice, 6, "TEMP");
+    cut.length -= 1;
+    EXPECT(is_refusal(check("On = TRUE", &twice), FQL_NAME_TWICE, 48));
+    EXPECT(is_refusal(check("On = TRUE", &cut), FQL_TABLE, 43));
+    EXPECT(is_refusal(check("On = TRUE", &empty), FQL_TABLE, 0));
+    EXPECT(is_failure(evaluate("On = TRUE", &cut, &instance), FQL_TABLE, 43));
+    EXPECT(is_failure(evaluate("On = TRUE", &table, &empty), FQL_INSTANCE, 0));
+    instance.length -= 1;
+    EXPECT(is_failure(evaluate("On = TRUE", &table, &instance), FQL_INSTANCE, 83));
+    /* NULL for each property, then subclass records of no body, and three bytes that are no record. */
+    static uint8_t zeros[65536];
+    EXPECT(is_failure(fql_evaluate((const uint8_t *)"On = TRUE", 9, table.bytes, table.length, zeros, 65535), FQL_INSTANCE, 65532));
+    EXPECT(is_failure(fql_evaluate((const uint8_t *)"On = TRUE", 9, table.bytes, table.length, zeros, 65536), FQL_INSTANCE_LENGTH, 0));
+}
+
+static int is_totals(fql_totals found, uint64_t included, uint64_t excluded, uint64_t failed) {
+    return found.number == 0 && found.place == 0 && found.included == included && found.excluded == excluded && found.failed == failed;
+}
+
+/* Marks on the heap, so that a write past them is seen by a memory checker. */
+static void marks_of_a_run(void) {
+    buffer table = sample_table(), run = sample_run(), none = {{0}, 0};
+    uint8_t *exact = malloc(3), more[5] = {7, 7, 7, 7, 7}, untouched[2] = {8, 9};
+    EXPECT(exact != NULL);
+    EXPECT(is_totals(mark("On = TRUE", &table, &run, exact, 3), 1, 1, 1));
+    EXPECT(exact[0] == FQL_INCLUDED && exact[1] == FQL_EXCLUDED && exact[2] == FQL_FAILED);
+    free(exact);
+    EXPECT(is_totals(mark("On = TRUE", &table, &run, more, 5), 1, 1, 1));
+    EXPECT(memcmp(more, (uint8_t[]){1, 0, 255, 7, 7}, 5) == 0);
+    EXPECT(is_totals(mark("On = TRUE", &table, &none, untouched, 2), 0, 0, 0));
+    EXPECT(is_totals(mark("On = TRUE", &table, &none, untouched, 0), 0, 0, 0));
+    EXPECT(untouched[0] == 8 && untouched[1] == 9);
+}
+
+static int is_unmarked(fql_totals found, uint64_t number, uint64_t place, const uint8_t *marks, size_t length) {
+    int same = found.number == number && found.place == place;
+    same = same && found.included == 0 && found.excluded == 0 && found.failed == 0;
+    for (size_t n = 0; n < length; n++) same = same && marks[n] == 7;
+    return same;
+}
+
+static void marks_of_a_refused_call(void) {
+    buffer table = sample_table(), run = sample_run(), broken = run, other = run, empty = {{0}, 0};
+    uint8_t marks[4] = {7, 7, 7, 7};
+    broken.length -= 1;
+    put_record(&other, 0x0301, "", 0);
+    EXPECT(run.length == 202);
+    EXPECT(is_unmarked(mark("On = TRUE AND", &table, &run, marks, 4), FQL_GRAMMAR, 13, marks, 4));
+    EXPECT(is_unmarked(mark("On = TRUE", &empty, &run, marks, 4), FQL_TABLE, 0, marks, 4));
+    EXPECT(is_unmarked(mark("On = TRUE", &table, &broken, marks, 4), FQL_RUN, 198, marks, 4));
+    EXPECT(is_unmarked(mark("On = TRUE", &table, &other, marks, 4), FQL_RUN, 202, marks, 4));
+    EXPECT(is_unmarked(mark("On = TRUE", &table, &other, marks, 0), FQL_RUN, 202, marks, 4));
+    EXPECT(is_unmarked(mark("On = TRUE", &table, &run, marks, 2), FQL_MARKS_LENGTH, 0, marks, 4));
+    EXPECT(is_unmarked(mark("On = TRUE", &table, &run, marks, 0), FQL_MARKS_LENGTH, 0, marks, 4));
+}
+
+static void parts_at_faults(void) {
+    buffer table = sample_table();
+    const uint8_t *query = (const uint8_t *)"On = TRUE AND";
+    for (uint64_t number = 0; number <= 42; number++) {
+        uint64_t source = number == 2 || number == 3 ? FQL_OF_TABLE : number >= 1 && number <= 25 ? FQL_OF_QUERY : FQL_NOTHING;
+        uint64_t length = source == FQL_OF_TABLE ? 48 : source == FQL_OF_QUERY ? 13 : 0;
+        for (uint64_t place = 0; place <= length; place++) {
+            uint64_t start = source == FQL_NOTHING ? 0 : place;
+            EXPECT(is_part(fql_fault_text(query, 13, table.bytes, 48, number, place), source, start, length - start));
+        }
+        EXPECT(is_part(fql_fault_text(query, 13, table.bytes, 48, number, length + 1), FQL_NOTHING, 0, 0));
+        EXPECT(is_part(fql_fault_text(query, 13, table.bytes, 48, number, UINT64_MAX), FQL_NOTHING, 0, 0));
+    }
+    EXPECT(is_part(fql_fault_text(query, 13, table.bytes, 48, UINT64_MAX, 0), FQL_NOTHING, 0, 0));
+    EXPECT(is_part(fql_fault_text(query, 13, table.bytes, 48, (UINT64_C(1) << 32) | 2, 0), FQL_NOTHING, 0, 0));
+}
+
+/* A slice of length 0 is never read; its pointer is to the end of a block, so that a memory checker sees it if it is. */
+static void empty_slices(void) {
+    uint8_t *block = malloc(1);
+    EXPECT(block != NULL);
+    uint8_t *none = block + 1;
+    buffer table = sample_table();
+    EXPECT(is_refusal(fql_check(none, 0, none, 0), FQL_TABLE, 0));
+    EXPECT(is_refusal(fql_check(none, 0, table.bytes, table.length), FQL_GRAMMAR, 0));
+    EXPECT(is_failure(fql_evaluate((const uint8_t *)"On = TRUE", 9, table.bytes, table.length, none, 0), FQL_INSTANCE, 0));
+    fql_totals totals = fql_mark((const uint8_t *)"On = TRUE", 9, table.bytes, table.length, none, 0, none, 0);
+    EXPECT(is_totals(totals, 0, 0, 0));
+    EXPECT(is_part(fql_fault_text(none, 0, none, 0, 11, 0), FQL_OF_QUERY, 0, 0));
+    EXPECT(is_part(fql_fault_text(none, 0, none, 0, 2, 0), FQL_OF_TABLE, 0, 0));
+    EXPECT(is_part(fql_fault_text(none, 0, none, 0, 2, 1), FQL_NOTHING, 0, 0));
+    free(block);
+}
+
+int main(void) {
+    sample_answers();
+    refusals_of_queries();
+    refusals_of_tables_and_instances();
+    marks_of_a_run();
+    marks_of_a_refused_call();
+    parts_at_faults();
+    empty_slices();
+    printf("c/test.c: %d of %d hold\n", checked - wrong, checked);
+    return wrong == 0 ? 0 : 1;
+}
