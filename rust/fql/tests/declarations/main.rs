@@ -1,0 +1,123 @@
+//! The C header and the Rust declarations against the archive's source: names, order, types, constness and count.
+
+mod declared;
+mod tokens;
+
+use declared::{of_c, of_rattle, of_rust, Declared};
+use fql::Cause;
+
+const SOURCE: &str = include_str!("../../../../crates/fql_export/src/lib.rt");
+const HEADER: &str = include_str!("../../../../include/fql.h");
+const RUST: &str = include_str!("../../src/raw.rs");
+
+fn compare(source: &str, other: Result<Declared, String>) -> Result<(), String> {
+    let (source, other) = (of_rattle(source)?, other?);
+    match source == other {
+        true => Ok(()),
+        false => Err(format!("the archive's source declares\n{source:#?}\nand not\n{other:#?}")),
+    }
+}
+
+#[test]
+fn the_header_declares_what_the_source_does() {
+    compare(SOURCE, of_c(HEADER)).unwrap();
+}
+
+#[test]
+fn the_wrapper_declares_what_the_source_does() {
+    compare(SOURCE, of_rust(RUST)).unwrap();
+}
+
+#[test]
+fn there_are_four_functions_and_four_structs() {
+    let source = of_rattle(SOURCE).unwrap();
+    let names = |text: &str| text.split(' ').map(str::to_owned).collect::<Vec<_>>();
+    let functions: Vec<String> = source.functions.iter().map(|f| f.0.clone()).collect();
+    assert_eq!(functions, names("fql_check fql_evaluate fql_mark fql_fault_text"));
+    let structs: Vec<String> = source.structs.iter().map(|s| s.0.clone()).collect();
+    assert_eq!(structs, names("FqlRefusal FqlAnswer FqlTotals FqlPart"));
+    let parameters: Vec<&str> = source.functions[2].1.iter().map(|p| p.0.as_str()).collect();
+    let expected = ["query", "query_length", "table", "table_length", "run", "run_length", "marks", "marks_length"];
+    assert_eq!(parameters, expected);
+}
+
+fn edited(text: &str, old: &str, new: &str) -> String {
+    assert!(text.contains(old), "{old} is not there");
+    text.replacen(old, new, 1)
+}
+
+#[test]
+fn a_changed_header_is_noticed() {
+    for (old, new) in [
+        ("uint64_t number;\n    uint64_t place;", "uint64_t place;\n    uint64_t number;"),
+        ("uint64_t steps;", "uint32_t steps;"),
+        ("uint64_t steps;", "int64_t steps;"),
+        ("    uint64_t steps;\n", ""),
+        ("uint64_t failed;", "uint64_t failed;\n    uint64_t more;"),
+        ("} fql_part;", "} fql_piece;"),
+        ("fql_refusal fql_check(const uint8_t *query", "fql_refusal fql_check(uint8_t *query"),
+        ("uint8_t *marks", "const uint8_t *marks"),
+        ("size_t query_length", "uint64_t query_length"),
+        ("const uint8_t *run, size_t run_length", "size_t run_length, const uint8_t *run"),
+        ("fql_answer fql_evaluate(", "fql_refusal fql_evaluate("),
+        ("fql_totals fql_mark(", "fql_totals fql_marks("),
+        ("uint64_t number, uint64_t place);", "uint64_t place, uint64_t number);"),
+        ("uint64_t number, uint64_t place);", "uint64_t number);"),
+        ("uint64_t number, uint64_t place);", "uint64_t number, uint64_t place);\nfql_part fql_more(uint64_t number);"),
+    ] {
+        assert!(compare(SOURCE, of_c(&edited(HEADER, old, new))).is_err(), "{old}\n{new}");
+    }
+}
+
+#[test]
+fn a_changed_wrapper_is_noticed() {
+    for (old, new) in [
+        ("pub number: u64,\n    pub place: u64,", "pub place: u64,\n    pub number: u64,"),
+        ("pub steps: u64,", "pub steps: u32,"),
+        ("#[repr(C)]\npub struct FqlPart", "pub struct FqlPart"),
+        ("marks: *mut u8", "marks: *const u8"),
+        ("instance_length: usize", "instance_length: u64"),
+        ("-> FqlTotals", "-> FqlAnswer"),
+        ("pub fn fql_check", "pub fn fql_checks"),
+    ] {
+        assert!(compare(SOURCE, of_rust(&edited(RUST, old, new))).is_err(), "{old}\n{new}");
+    }
+}
+
+#[test]
+fn a_changed_source_is_noticed() {
+    for (old, new) in [
+        ("pub extern \"C\" fn fql_check<'a>(query: &'a [u8]", "pub extern \"C\" fn fql_check<'a>(text: &'a [u8]"),
+        ("marks: &mut [u8]", "marks: &'a [u8]"),
+        ("pub length: u64", "pub length: u32"),
+        ("#[repr(C)]\npub struct FqlPart", "pub struct FqlPart"),
+    ] {
+        let source = edited(SOURCE, old, new);
+        assert!(compare(&source, of_c(HEADER)).is_err(), "{old}\n{new}");
+    }
+}
+
+/// The header's constants, `FQL_NAME = number`.
+fn constants(text: &str) -> Vec<(String, u64)> {
+    let tokens = tokens::tokens(text);
+    let constant =
+        |w: &[String]| (w[0].starts_with("FQL_") && w[1] == "=").then(|| (w[0].clone(), w[2].parse().unwrap()));
+    tokens.windows(3).filter_map(constant).collect()
+}
+
+/// `NameTwice` as `FQL_NAME_TWICE`.
+fn constant_of(cause: Cause) -> String {
+    let name = format!("{cause:?}");
+    let part = |c: char| if c.is_uppercase() { format!("_{c}") } else { c.to_uppercase().to_string() };
+    format!("FQL{}", name.chars().map(part).collect::<String>())
+}
+
+#[test]
+fn the_header_s_numbers_are_those_of_the_wrapper() {
+    let causes = Cause::ALL.into_iter().map(|cause| (constant_of(cause), cause.number()));
+    let marks = [("FQL_EXCLUDED", fql::EXCLUDED), ("FQL_INCLUDED", fql::INCLUDED), ("FQL_FAILED", fql::FAILED)];
+    let marks = marks.map(|(name, byte)| (name.to_owned(), u64::from(byte)));
+    let sources = [("FQL_NOTHING", 0), ("FQL_OF_QUERY", 1), ("FQL_OF_TABLE", 2)];
+    let sources = sources.map(|(name, number)| (name.to_owned(), number));
+    assert_eq!(constants(HEADER), causes.chain(marks).chain(sources).collect::<Vec<_>>());
+}
