@@ -1,5 +1,5 @@
-//! Random runs for a comparison of two markers: good ones, and ones with a damaged table, query, instance or run, or too
-//! few marks.
+//! Random runs for a comparison of two markers: good ones, and ones with a damaged table, query, instance or run, or
+//! too few marks.
 
 use super::source::Source;
 use super::{comparison, value};
