@@ -123,6 +123,8 @@ static void marks_of_a_run(void) {
     EXPECT(exact != NULL);
     EXPECT(is_totals(mark("On = TRUE", &table, &run, exact, 3), 1, 1, 1));
     EXPECT(exact[0] == FQL_INCLUDED && exact[1] == FQL_EXCLUDED && exact[2] == FQL_FAILED);
+    EXPECT(is_totals(mark("R = .5", &table, &run, exact, 3), 2, 0, 1));
+    EXPECT(exact[0] == FQL_INCLUDED && exact[1] == FQL_INCLUDED && exact[2] == FQL_FAILED);
     free(exact);
     EXPECT(is_totals(mark("On = TRUE", &table, &run, more, 5), 1, 1, 1));
     EXPECT(memcmp(more, (uint8_t[]){1, 0, 255, 7, 7}, 5) == 0);
