@@ -32,7 +32,7 @@ static void ask(const char *filter, const buffer *table, const buffer *instance)
         printf("  failed %d at %d\n", (int)answer.number, (int)answer.place);
         return;
     }
-    printf("  %s in %d steps\n", answer.included ? "included" : "excluded", (int)answer.steps);
+    printf("  %s, steps: %d\n", answer.included ? "included" : "excluded", (int)answer.steps);
 }
 
 /* Marks all instances of a run in one call. There has to be a mark for each; more do no harm. */

@@ -1,8 +1,10 @@
 //! What an operator is told of a query, a table and a run.
 
 use fqlrec::{explain, read, Files};
+use reference::cases::run::{random, RunCase};
 use reference::examples::programs;
 use reference::program::output;
+use reference::random::Random;
 use reference::record::write;
 
 const TEXT: &str = "\
@@ -155,16 +157,28 @@ fn a_subclass_record_that_is_cut() {
 }
 
 /// Number and place are the program's.
+fn hold_to_program(files: &reference::program::Files) {
+    let explanation = explain(&files.query, &files.table, &files.run);
+    let lines = output(files);
+    let expected = match lines.strip_prefix("refused ") {
+        Some(rest) => format!("refused {}: ", rest.trim_end().replace(' ', " at ")),
+        None => "accepted\n".to_owned(),
+    };
+    assert_eq!(explanation.accepted, !lines.starts_with("refused"));
+    assert!(explanation.text.starts_with(&expected), "{expected}\n{}", explanation.text);
+    assert_eq!(explanation.text.matches("\ninstance ").count(), lines.matches(" failed 31\n").count());
+}
+
 #[test]
-fn of_the_program_s_files() {
-    for e in programs::examples() {
-        let explanation = explain(&e.files.query, &e.files.table, &e.files.run);
-        let lines = output(&e.files);
-        let expected = match lines.strip_prefix("refused ") {
-            Some(rest) => format!("refused {}: ", rest.trim_end().replace(' ', " at ")),
-            None => "accepted\n".to_owned(),
-        };
-        assert_eq!(explanation.accepted, !lines.starts_with("refused"));
-        assert!(explanation.text.starts_with(&expected), "{expected}\n{}", explanation.text);
+fn of_the_program_s_examples() {
+    programs::examples().iter().for_each(|e| hold_to_program(&e.files));
+}
+
+#[test]
+fn of_random_files() {
+    let mut r = Random::for_test("files");
+    for _ in 0..2_000 {
+        let RunCase { table, query, run, .. } = random(&mut r);
+        hold_to_program(&reference::program::Files { table, query, run });
     }
 }

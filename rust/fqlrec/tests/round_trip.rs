@@ -77,6 +77,57 @@ fn of_values_of_every_type() {
     }
 }
 
+/// The same lines with other blanks, and with comments and empty lines.
+fn in_another_layout(r: &mut Random, text: &str) -> String {
+    let mut out = String::new();
+    for line in text.lines() {
+        let inner = line.trim_start();
+        if inner.len() < line.len() {
+            out += r.pick(&[" ", "\t", "    ", "  \t  "]);
+        }
+        out += inner;
+        out += r.pick(&["\n", "\r\n", " \n", "# a comment\n", " # it's another\n\n", "\n    # one by itself\n\t\n"]);
+    }
+    out
+}
+
+#[test]
+fn of_texts_in_another_layout() {
+    let mut r = Random::for_test("layouts");
+    for _ in 0..400 {
+        let case = run::random(&mut r);
+        let text = show(&Files { table: case.table, run: case.run });
+        let other = in_another_layout(&mut r, &text);
+        let files = read(other.as_bytes()).unwrap_or_else(|problem| panic!("{problem}\n{other}"));
+        assert_eq!(show(&files), text);
+    }
+}
+
+/// A damaged text is read, or has a problem at a place that is there.
+#[test]
+fn of_damaged_texts() {
+    let mut r = Random::for_test("texts");
+    let (mut good, mut bad) = (0, 0);
+    for _ in 0..2_500 {
+        let case = cases::random(&mut r);
+        let instance = if case.instance.len() < 2_000 { instance(&case.instance) } else { vec![] };
+        let text = show(&Files { table: case.table, run: instance });
+        let damaged = r.damage(text.as_bytes());
+        match read(&damaged) {
+            Ok(files) => {
+                good += 1;
+                round_trip(&files.table, &files.run);
+            }
+            Err(problem) => {
+                bad += 1;
+                let line = damaged.split(|b| *b == b'\n').nth(problem.line - 1).expect("a line that is there");
+                assert!((1..=line.len() + 1).contains(&problem.column), "{problem}");
+            }
+        }
+    }
+    assert!(good >= 100 && bad >= 100, "{good} read, {bad} not");
+}
+
 /// Every kind of empty, and a whole that is broken at each byte.
 #[test]
 fn of_cut_files() {

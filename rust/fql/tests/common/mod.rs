@@ -1,5 +1,5 @@
 //! The engine and the second evaluator on one input. A difference ends the test with a line that can be pasted into
-//! one.
+//! one. Each test file uses some of it.
 #![allow(dead_code)]
 
 use std::fmt::Debug;
