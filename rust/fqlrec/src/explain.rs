@@ -44,8 +44,12 @@ fn marks(run: &[u8]) -> Vec<u8> {
 fn in_query(query: &[u8], offset: usize) -> String {
     let place = place(query, offset);
     let end = if offset == query.len() { ", the query's end" } else { "" };
-    let [text, caret] = place.excerpt;
-    format!("query, line {}, column {}{end}:\n    {text}\n    {caret}\n", place.line, place.column)
+    let mut out = format!("query, line {}, column {}{end}:\n", place.line, place.column);
+    for line in place.excerpt {
+        out += format!("    {line}").trim_end();
+        out += "\n";
+    }
+    out
 }
 
 /// The totals, and for each instance that fails its record at fault.

@@ -13,8 +13,8 @@ pub struct Place {
     pub line: usize,
     /// From 1, as a terminal shows the line.
     pub column: usize,
-    /// The line, and a line with a caret below the place.
-    pub excerpt: [String; 2],
+    /// The line, and a line with a caret below the place; before a blank line the last that isn't.
+    pub excerpt: Vec<String>,
 }
 
 /// What is shown for a character, or for a byte that is of none.
@@ -30,13 +30,21 @@ pub fn place(text: &[u8], offset: usize) -> Place {
     let before = &text[..offset];
     let start = before.iter().rposition(|b| *b == b'\n').map_or(0, |n| n + 1);
     let line = text[start..].split(|b| *b == b'\n').next().unwrap();
-    let cells = cells(line.strip_suffix(b"\r").unwrap_or(line));
+    let cells = cells(line);
     let at = cells.iter().filter(|cell| cell.end <= offset - start).count();
-    Place {
-        line: 1 + before.iter().filter(|b| **b == b'\n').count(),
-        column: 1 + width(&cells[..at]),
-        excerpt: excerpt(&cells, at),
+    let mut lines = excerpt(&cells, at).to_vec();
+    if line.trim_ascii().is_empty() {
+        lines.splice(0..0, last_line(&text[..start]));
     }
+    Place { line: 1 + before.iter().filter(|b| **b == b'\n').count(), column: 1 + width(&cells[..at]), excerpt: lines }
+}
+
+/// The last line that isn't blank, as far as its end can be shown.
+fn last_line(text: &[u8]) -> Option<String> {
+    let line = text.split(|b| *b == b'\n').rfind(|line| !line.trim_ascii().is_empty())?;
+    let cells = cells(line);
+    let [shown, _] = excerpt(&cells, cells.len());
+    Some(shown)
 }
 
 fn width(cells: &[Cell]) -> usize {
@@ -65,7 +73,9 @@ fn excerpt(cells: &[Cell], at: usize) -> [String; 2] {
     [format!("{left}{shown}{right}"), format!("{:column$}^", "")]
 }
 
+/// The cells of a line, without the CR that may end it.
 fn cells(line: &[u8]) -> Vec<Cell> {
+    let line = line.strip_suffix(b"\r").unwrap_or(line);
     let mut cells: Vec<Cell> = Vec::new();
     let mut push = |length: usize, (shown, columns): (String, usize)| {
         let end = cells.last().map_or(0, |cell| cell.end) + length;
@@ -106,7 +116,8 @@ mod tests {
     use super::*;
 
     fn shown(text: &str, offset: usize) -> (usize, usize, String, String) {
-        let Place { line, column, excerpt: [text, caret] } = place(text.as_bytes(), offset);
+        let Place { line, column, excerpt } = place(text.as_bytes(), offset);
+        let [text, caret] = excerpt.try_into().unwrap();
         (line, column, text, caret)
     }
 
@@ -120,7 +131,14 @@ mod tests {
     fn at_the_end() {
         assert_eq!(shown("On = TRUE AND", 13), (1, 14, "On = TRUE AND".into(), "             ^".into()));
         assert_eq!(shown("", 0), (1, 1, "".into(), "^".into()));
-        assert_eq!(shown("On =\n", 5), (2, 1, "".into(), "^".into()));
+    }
+
+    #[test]
+    fn in_a_blank_line() {
+        let Place { line, column, excerpt } = place(b"On =\r\n\n  ", 9);
+        assert_eq!((line, column), (3, 3));
+        assert_eq!(excerpt, ["On =", "  ", "  ^"]);
+        assert_eq!(shown("\n\n", 2), (3, 1, "".into(), "^".into()));
     }
 
     #[test]

@@ -68,6 +68,20 @@ query, line 1, column 14, the query's end:
 }
 
 #[test]
+fn an_end_after_a_line_break() {
+    assert_eq!(
+        refused("On = TRUE AND\n", &files()),
+        "\
+refused 11 at 14: this is no token, or no query can have it here
+query, line 2, column 1, the query's end:
+    On = TRUE AND
+
+    ^
+"
+    );
+}
+
+#[test]
 fn a_query_that_is_not_utf_8() {
     let Files { table, run } = files();
     let explanation = explain(b"On = TRUE\xc3", &table, &run);
