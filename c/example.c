@@ -18,7 +18,8 @@ static int accept(const char *filter, const buffer *table) {
         return 1;
     }
     printf("refused %d at %d: %s\n", (int)refusal.number, (int)refusal.place, filter);
-    fql_part part = fql_fault_text(bytes_of(filter), length, table->bytes, table->length, refusal.number, refusal.place);
+    fql_part part =
+        fql_fault_text(bytes_of(filter), length, table->bytes, table->length, refusal.number, refusal.place);
     if (part.source == FQL_OF_QUERY) {
         printf("  from here on: \"%.*s\"\n", (int)part.length, filter + part.start);
     }
@@ -27,7 +28,8 @@ static int accept(const char *filter, const buffer *table) {
 
 /* Asks about one instance. For a filter that was accepted, only an instance that doesn't conform is refused. */
 static void ask(const char *filter, const buffer *table, const buffer *instance) {
-    fql_answer answer = fql_evaluate(bytes_of(filter), strlen(filter), table->bytes, table->length, instance->bytes, instance->length);
+    fql_answer answer = fql_evaluate(bytes_of(filter), strlen(filter), table->bytes, table->length,
+                                     instance->bytes, instance->length);
     if (answer.number != 0) {
         printf("  failed %d at %d\n", (int)answer.number, (int)answer.place);
         return;
@@ -38,7 +40,8 @@ static void ask(const char *filter, const buffer *table, const buffer *instance)
 /* Marks all instances of a run in one call. There has to be a mark for each; more do no harm. */
 static void mark(const char *filter, const buffer *table, const buffer *run) {
     uint8_t marks[8] = {0};
-    fql_totals totals = fql_mark(bytes_of(filter), strlen(filter), table->bytes, table->length, run->bytes, run->length, marks, sizeof marks);
+    fql_totals totals = fql_mark(bytes_of(filter), strlen(filter), table->bytes, table->length,
+                                 run->bytes, run->length, marks, sizeof marks);
     if (totals.number != 0) {
         printf("  refused %d at %d\n", (int)totals.number, (int)totals.place);
         return;

@@ -1,4 +1,5 @@
-/* Records, of which tables, instances and runs are made: a body length and a kind of 2 bytes each, least byte first, and the body. */
+/* Records, of which tables, instances and runs are made: a body length and a kind of 2 bytes each, least byte first,
+   and the body. */
 #ifndef RECORD_H
 #define RECORD_H
 

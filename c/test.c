@@ -24,11 +24,13 @@ static fql_refusal check(const char *query, const buffer *table) {
 }
 
 static fql_answer evaluate(const char *query, const buffer *table, const buffer *instance) {
-    return fql_evaluate((const uint8_t *)query, strlen(query), table->bytes, table->length, instance->bytes, instance->length);
+    return fql_evaluate((const uint8_t *)query, strlen(query), table->bytes, table->length,
+                        instance->bytes, instance->length);
 }
 
 static fql_totals mark(const char *query, const buffer *table, const buffer *run, uint8_t *marks, size_t marks_length) {
-    return fql_mark((const uint8_t *)query, strlen(query), table->bytes, table->length, run->bytes, run->length, marks, marks_length);
+    return fql_mark((const uint8_t *)query, strlen(query), table->bytes, table->length,
+                    run->bytes, run->length, marks, marks_length);
 }
 
 static int is_refusal(fql_refusal found, uint64_t number, uint64_t place) {
@@ -108,12 +110,14 @@ static void refusals_of_tables_and_instances(void) {
     EXPECT(is_failure(evaluate("On = TRUE", &table, &instance), FQL_INSTANCE, 83));
     /* NULL for each property, then subclass records of no body, and three bytes that are no record. */
     static uint8_t zeros[65536];
-    EXPECT(is_failure(fql_evaluate((const uint8_t *)"On = TRUE", 9, table.bytes, table.length, zeros, 65535), FQL_INSTANCE, 65532));
-    EXPECT(is_failure(fql_evaluate((const uint8_t *)"On = TRUE", 9, table.bytes, table.length, zeros, 65536), FQL_INSTANCE_LENGTH, 0));
+    const uint8_t *query = (const uint8_t *)"On = TRUE";
+    EXPECT(is_failure(fql_evaluate(query, 9, table.bytes, table.length, zeros, 65535), FQL_INSTANCE, 65532));
+    EXPECT(is_failure(fql_evaluate(query, 9, table.bytes, table.length, zeros, 65536), FQL_INSTANCE_LENGTH, 0));
 }
 
 static int is_totals(fql_totals found, uint64_t included, uint64_t excluded, uint64_t failed) {
-    return found.number == 0 && found.place == 0 && found.included == included && found.excluded == excluded && found.failed == failed;
+    int counted = found.included == included && found.excluded == excluded && found.failed == failed;
+    return counted && found.number == 0 && found.place == 0;
 }
 
 /* Marks on the heap, so that a write past them is seen by a memory checker. */
@@ -159,7 +163,8 @@ static void parts_at_faults(void) {
     buffer table = sample_table();
     const uint8_t *query = (const uint8_t *)"On = TRUE AND";
     for (uint64_t number = 0; number <= 42; number++) {
-        uint64_t source = number == 2 || number == 3 ? FQL_OF_TABLE : number >= 1 && number <= 25 ? FQL_OF_QUERY : FQL_NOTHING;
+        int of_table = number == 2 || number == 3, of_either = number >= 1 && number <= 25;
+        uint64_t source = of_table ? FQL_OF_TABLE : of_either ? FQL_OF_QUERY : FQL_NOTHING;
         uint64_t length = source == FQL_OF_TABLE ? 48 : source == FQL_OF_QUERY ? 13 : 0;
         for (uint64_t place = 0; place <= length; place++) {
             uint64_t start = source == FQL_NOTHING ? 0 : place;
@@ -172,7 +177,7 @@ static void parts_at_faults(void) {
     EXPECT(is_part(fql_fault_text(query, 13, table.bytes, 48, (UINT64_C(1) << 32) | 2, 0), FQL_NOTHING, 0, 0));
 }
 
-/* A slice of length 0 is never read; its pointer is to the end of a block, so that a memory checker sees it if it is. */
+/* A slice of length 0 is never read. Its pointer is to a block's end, so that a memory checker would see a read. */
 static void empty_slices(void) {
     uint8_t *block = malloc(1);
     EXPECT(block != NULL);
@@ -180,9 +185,9 @@ static void empty_slices(void) {
     buffer table = sample_table();
     EXPECT(is_refusal(fql_check(none, 0, none, 0), FQL_TABLE, 0));
     EXPECT(is_refusal(fql_check(none, 0, table.bytes, table.length), FQL_GRAMMAR, 0));
-    EXPECT(is_failure(fql_evaluate((const uint8_t *)"On = TRUE", 9, table.bytes, table.length, none, 0), FQL_INSTANCE, 0));
-    fql_totals totals = fql_mark((const uint8_t *)"On = TRUE", 9, table.bytes, table.length, none, 0, none, 0);
-    EXPECT(is_totals(totals, 0, 0, 0));
+    const uint8_t *query = (const uint8_t *)"On = TRUE";
+    EXPECT(is_failure(fql_evaluate(query, 9, table.bytes, table.length, none, 0), FQL_INSTANCE, 0));
+    EXPECT(is_totals(fql_mark(query, 9, table.bytes, table.length, none, 0, none, 0), 0, 0, 0));
     EXPECT(is_part(fql_fault_text(none, 0, none, 0, 11, 0), FQL_OF_QUERY, 0, 0));
     EXPECT(is_part(fql_fault_text(none, 0, none, 0, 2, 0), FQL_OF_TABLE, 0, 0));
     EXPECT(is_part(fql_fault_text(none, 0, none, 0, 2, 1), FQL_NOTHING, 0, 0));

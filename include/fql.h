@@ -1,10 +1,12 @@
 /* A proved filter engine for DMTF's Filter Query Language (DSP0212).
 
-   A query is a filter's text. A table says which properties a class has, an instance holds their values, and a run is a sequence of instances; these three are made of
-   records: a body length (2 bytes), a kind (2 bytes), the body; least byte first.
+   A query is a filter's text. A table says which properties a class has, an instance holds their values, and a run is
+   a sequence of instances; these three are made of records: a body length (2 bytes), a kind (2 bytes), the body; least
+   byte first.
 
-   Every function takes bytes of any content and length and returns. It allocates nothing, keeps nothing, and writes nowhere but into marks, so it may be called from any
-   thread. Each slice is a pointer and a length in bytes. A pointer may not be null, also where its length is 0, and marks may not overlap the other bytes of the call.
+   Every function takes bytes of any content and length and returns. It allocates nothing, keeps nothing, and writes
+   nowhere but into marks, so it may be called from any thread. Each slice is a pointer and a length in bytes. A pointer
+   may not be null, also where its length is 0, and marks may not overlap the other bytes of the call.
 
    Link with libfql_export.a, which `rt staticlib fql_export` writes into target/staticlib. */
 #ifndef FQL_H
@@ -19,7 +21,7 @@ extern "C" {
 
 /* The numbers of refusals, in the order in which the causes are tried. Number 0 means that nothing is refused. */
 enum fql_cause {
-    FQL_TABLE = 2,            /* the table is longer than 8,192 bytes, or a record of it is malformed or has a bad name */
+    FQL_TABLE = 2,            /* the table is longer than 8,192 bytes, or a record is malformed or has a bad name */
     FQL_NAME_TWICE = 3,       /* the table has a property name twice */
     FQL_QUERY_LENGTH = 1,     /* the query is longer than 4,096 bytes */
     FQL_ENCODING = 10,        /* the query is not UTF-8 */
@@ -51,8 +53,9 @@ enum fql_source {
     FQL_OF_TABLE = 2
 };
 
-/* A refusal: its number, or 0, and its place, a byte offset into the table (2, 3), the query (1, 10 to 25), the instance (31) or the run (40). The place is 0 where a whole is
-   at fault, and the length of a text or of records where something is missing at their end. */
+/* A refusal: its number, or 0, and its place, a byte offset into the table (2, 3), the query (1, 10 to 25), the
+   instance (31) or the run (40). The place is 0 where a whole is at fault, and the length of a text or of records where
+   something is missing at their end. */
 typedef struct fql_refusal {
     uint64_t number;
     uint64_t place;
@@ -75,27 +78,30 @@ typedef struct fql_totals {
     uint64_t failed;
 } fql_totals;
 
-/* A part of the query or of the table: which of them, from which byte on, and how many bytes. All are 0 for FQL_NOTHING. */
+/* A part of the query or of the table: which of them, from which byte on, and how many bytes. All are 0 where there is
+   none. */
 typedef struct fql_part {
     uint64_t source;
     uint64_t start;
     uint64_t length;
 } fql_part;
 
-/* Whether the query can be evaluated on the instances of the table's class. A query that is accepted is answered on every instance that conforms to the table; one that is
-   refused fails on each of them with the same number and place. */
+/* Whether the query can be evaluated on the instances of the table's class. A query that is accepted is answered on
+   every instance that conforms to the table; one that is refused fails on each of them with the same number and
+   place. */
 fql_refusal fql_check(const uint8_t *query, size_t query_length, const uint8_t *table, size_t table_length);
 
 /* Whether the query includes an instance, and in how many steps. */
 fql_answer fql_evaluate(const uint8_t *query, size_t query_length, const uint8_t *table, size_t table_length,
                         const uint8_t *instance, size_t instance_length);
 
-/* Writes one mark for each instance of the run. Marks beyond the run's instances keep their values, and a refused call leaves all as they were. */
+/* Writes one mark for each instance of the run. Marks beyond the run's instances keep their values, and a refused call
+   leaves all as they were. */
 fql_totals fql_mark(const uint8_t *query, size_t query_length, const uint8_t *table, size_t table_length,
                     const uint8_t *run, size_t run_length, uint8_t *marks, size_t marks_length);
 
-/* The part that a refusal is about, from its place on: of the table for 2 and 3, of the query for the other numbers from 1 to 25; nothing for any other number or for a place
-   past the end. */
+/* The part that a refusal is about, from its place on: of the table for 2 and 3, of the query for the other numbers
+   from 1 to 25; nothing for any other number or for a place past the end. */
 fql_part fql_fault_text(const uint8_t *query, size_t query_length, const uint8_t *table, size_t table_length,
                         uint64_t number, uint64_t place);
 
