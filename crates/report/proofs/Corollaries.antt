@@ -1,6 +1,6 @@
 -- What follows for the output: a line for each instance of a run that divides, one line for a refused call, and the numbers that it can have.
-use Prim.Native.Nat.{ℕ, _+_, _%_, _/_, _≤_, _<_}
-use mathlib.Core.List.{List, [], _∷_, _++_, map}
+use Prim.Native.Nat.{ℕ, _+_, _%_, _≤_}
+use mathlib.Core.List.{List, [], _∷_, _++_}
 use mathlib.Core.Bool.{Bool, true, false}
 use mathlib.Core.Path.{_≡_, refl, sym, ap, _∙_}
 use native.Mathlib.Omega.{arith}
@@ -25,7 +25,7 @@ use Rattle.run.proofs.Laws.{divides}
 use Rattle.text_writer.specs.Decimal.{decimal}
 use Rattle.text_writer.proofs.Digits.{by-tenths}
 use Rattle.report.specs.Line.{wordOf, valueOf, ending, line, answerLine, refusedLine, answerLines, lineCount}
-use Rattle.report.specs.Output.{indivisible, runLimit, outputRead, runOutput, outputChecked, output}
+use Rattle.report.specs.Output.{indivisible, runLimit, outputRead, outputChecked, output}
 use Rattle.report.proofs.Values.{number-small}
 
 -- ---- how many lines

@@ -2,14 +2,13 @@
 use Prim.Native.Nat.{ℕ, zero, suc, _+_, _-_, _*_, _≤_, _<_}
 use mathlib.Core.List.{List, [], _∷_, map}
 use mathlib.Core.Bool.{Bool, true, false}
-use mathlib.Core.Path.{_≡_, refl, sym, ap, _∙_}
+use mathlib.Core.Path.{_≡_, refl, sym, _∙_}
 use native.Mathlib.Omega.{arith}
 use lib.ListN.{length, length-append}
 use lib.Dec.{ltb, eqb}
-use borrow.Author.Tests.{ltb-true, ltb-false}
+use borrow.Author.Tests.{ltb-false}
 use Rattle.base.specs.Pick.{pick}
-use Rattle.base.specs.Part.{part}
-use Rattle.record.specs.Record.{recordAt, Records, item, broken, ended, records}
+use Rattle.record.specs.Record.{recordAt, Records, records}
 use Rattle.record.specs.declared.read.RecordAt.{RecordAt}
 use Rattle.record.specs.declared.read.RecordAt.the-variants.{Whole, Broken, End}
 use Rattle.record.proofs.Records.{records-whole, records-broken, records-end}
@@ -23,7 +22,6 @@ use Rattle.filter.specs.declared.refusal.Checked.the-variants as checked
 use Rattle.filter.specs.declared.refusal.Answer.{Answer}
 use Rattle.filter.specs.declared.refusal.Answer.the-variants.{Included, Excluded, Refused}
 use Rattle.run.specs.Run.{readingFrom, runReading, bodiesOf, instancesOf}
-use Rattle.run.specs.Totals.{answersOf}
 use Rattle.run.specs.declared.reading.RunReading.{RunReading}
 use Rattle.run.specs.declared.reading.RunReading.the-variants.{Divides, Breaks}
 use Rattle.text_writer.proofs.Digits.{decimal-short}

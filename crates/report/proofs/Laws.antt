@@ -1,6 +1,6 @@
 -- One law for each exit of `src/line.rt`.
 use Prim.Native.Nat.{ℕ}
-use mathlib.Core.List.{List, [], _∷_, _++_}
+use mathlib.Core.List.{List, [], _∷_}
 use mathlib.Core.Path.{_≡_}
 use Rattle.base.specs.Ascii.{bytes}
 use Rattle.filter.specs.Refusal.{numberOf}

@@ -2,7 +2,7 @@
 use Prim.Native.Nat.{ℕ, zero, suc, _+_, _*_, _≤_}
 use mathlib.Core.List.{List}
 use mathlib.Core.Bool.{Bool, true, false}
-use mathlib.Core.Path.{_≡_, refl, sym, ap, _∙_}
+use mathlib.Core.Path.{_≡_, refl}
 use native.Mathlib.Omega.{arith}
 use lib.ListN.{length}
 use Rattle.table.specs.Table.{tableReading}
@@ -22,13 +22,12 @@ use Rattle.query_text.specs.declared.query.NextResult.{NextResult}
 use Rattle.query_text.specs.declared.query.NextResult.the-variants.{HasNext, NoNext}
 use Rattle.query_text.specs.declared.query.Verdict.{Verdict}
 use Rattle.query_text.specs.declared.query.Verdict.the-variants as verdict
-use Rattle.query_text.specs.Query.{Comparisons, only, more, Query, bad, good, before, lastJoin, nextComparison, queryFrom, queryStart, query}
+use Rattle.query_text.specs.Query.{Comparisons, only, Query, bad, good, before, lastJoin, nextComparison, queryFrom, queryStart, query}
 use Rattle.query_text.specs.Text.{textVerdict}
-use Rattle.query_text.specs.Tree.{tree}
-use Rattle.short_circuit.specs.Count.{treeSteps, sumOf}
+use Rattle.short_circuit.specs.Count.{sumOf}
 use Rattle.short_circuit.proofs.Bound.{steps-below}
 use Rattle.operand.specs.declared.cause.Cause.the-variants as comparison
-use Rattle.filter.specs.Refusal.{numberOf, Call, refused, compares, callQuery, callText, callUnder, callOf}
+use Rattle.filter.specs.Refusal.{numberOf, callQuery, callText, callUnder, callOf}
 use Rattle.filter.specs.Check.{check}
 use Rattle.filter.specs.Meaning.{truthOf, stepsOf, querySteps}
 use Rattle.filter.specs.Evaluate.{meantIn, answer, answerIf, evaluate, stepsCall, steps}

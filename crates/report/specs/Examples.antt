@@ -1,4 +1,4 @@
--- Lines of the program, among them the two of 01's sample.
+-- Lines of the program (01 "A fan to try"), among them the sample's two.
 use Prim.Native.Nat.{ℕ}
 use mathlib.Core.List.{List, [], _∷_, _++_}
 use Rattle.base.specs.Ascii.{bytes}

@@ -1,13 +1,13 @@
 -- Texts written one after the other are one text; a buffer with room for a text holds all of it.
-use Prim.Native.Nat.{ℕ, zero, suc, _+_, _≤_, _<_, min, max}
+use Prim.Native.Nat.{ℕ, suc, _+_, _≤_, _<_}
 use mathlib.Core.List.{List, [], _∷_, _++_}
 use mathlib.Core.Bool.{Bool, true, false}
-use mathlib.Core.Path.{_≡_, refl, sym, ap, _∙_, subst}
+use mathlib.Core.Path.{_≡_, refl, sym, ap, _∙_}
 use native.Mathlib.Omega.{arith}
 use native.Mathlib.Numerals.{add-one}
 use native.Mathlib.Nat.{add-suc, suc-add, add-zero}
-use lib.ListN.{length, set, take, getD, length-append, length-set}
-use lib.Seq.{sets, length-sets, sets-eq, set-out, take-suc, take-all, take-length, take-append-seam}
+use lib.ListN.{length, set, take, getD, length-append}
+use lib.Seq.{sets, length-sets, sets-eq, set-out, take-suc, take-all, take-append-seam}
 use lib.Dec.{leb}
 use borrow.Author.Tests.{leb-true, leb-false}
 use Rattle.text_writer.specs.Written.{Written}

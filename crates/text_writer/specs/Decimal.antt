@@ -1,4 +1,4 @@
--- A number in decimal digits, ASCII, the first of them not `0` unless it is the only one.
+-- A number as the lines of 01 "A fan to try" write it: decimal digits, ASCII, the first of them not `0` unless it is the only one.
 use Prim.Native.Nat.{ℕ, zero, suc, _+_, _/_, _%_}
 use mathlib.Core.List.{List, [], _∷_, _++_}
 use mathlib.Core.Bool.{true, false}

@@ -1,4 +1,4 @@
--- A buffer into which a text was written.
+-- A buffer into which a text was written, for the lines of 01 "A fan to try".
 use Prim.Native.Nat.{ℕ, _+_, min, max}
 use mathlib.Core.List.{List}
 use mathlib.Core.Path.{_≡_}
