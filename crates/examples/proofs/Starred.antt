@@ -1,4 +1,4 @@
--- What check and evaluate say of 01's starred examples, and mark of runs, computed from their definitions.
+-- What check and evaluate say of 01's starred examples, mark of runs, and what the program prints, computed from their definitions.
 use mathlib.Core.Path.{_≡_, refl}
 use lib.Ieee.{ofInt, ofBits, mul, div, neg, round, lt, eq}
 use Rattle.base.specs.Vectors.{results, expected}
@@ -73,11 +73,15 @@ use Rattle.filter.specs.Refusal as filter-refusal
 use Rattle.run.specs.Run as run-run
 use Rattle.run.specs.Totals as run-totals
 use Rattle.mark.specs.Mark as mark-mark
+use Rattle.text_writer.specs.Decimal as text-writer-decimal
+use Rattle.report.specs.Line as report-line
+use Rattle.report.specs.Output as report-output
 use Rattle.examples.specs.Starred.{outcomes, starred}
 use Rattle.examples.specs.Marks.{outcome, calls}
+use Rattle.examples.specs.Printed.{printed, outputs}
 
--- both in one computation, so that what it unfolds is listed once
-every-one : (results outcomes starred ≡ expected starred) × (results outcome calls ≡ expected calls)
+-- all in one computation, so that what it unfolds is listed once
+every-one : (results outcomes starred ≡ expected starred) × (results outcome calls ≡ expected calls) × (results printed outputs ≡ expected outputs)
 unfolding
     ofInt ofBits mul div neg round lt eq base-walk.walk
     base-digit.digitOf base-digit.allDigits base-digit.valueOf base-digit.sizeUnder
@@ -151,10 +155,16 @@ unfolding
     run-run.readingFrom run-run.runReading run-run.bodiesOf run-run.instancesOf
     run-totals.count
     mark-mark.mark mark-mark.marksAfter
-every-one = (refl, refl)
+    text-writer-decimal.digitsWithin text-writer-decimal.decimal
+    report-line.ending report-line.line report-line.refusedLine report-line.answerLines
+    report-output.output
+every-one = (refl, refl, refl)
 
 pub starred-right : results outcomes starred ≡ expected starred
 starred-right = every-one .0
 
 pub calls-right : results outcome calls ≡ expected calls
 calls-right = every-one .1
+
+pub outputs-right : results printed outputs ≡ expected outputs
+outputs-right = every-one .2
