@@ -4,3 +4,4 @@ pub mod Maximal
 pub mod Examples
 pub mod Steps
 pub mod Local
+pub mod Calls

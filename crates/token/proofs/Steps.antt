@@ -1,17 +1,19 @@
 -- One token a step: each step moves forward and ends at its token's end, within the text.
 use Prim.Native.Nat.{ℕ, _+_, _-_, _≤_, _<_}
-use mathlib.Core.Path.{_≡_, refl, sym, _∙_}
+use mathlib.Core.Path.{_≡_, refl, sym, ap, _∙_}
 use mathlib.Core.List.{List}
 use mathlib.Core.Bool.{Bool, true, false, _&&_}
 use native.Mathlib.Omega.{arith}
 use lib.ListN.{length}
 use lib.Dec.{leb, eqb}
-use borrow.Author.Tests.{ltb-true}
+use borrow.Author.Tests.{ltb-true, ltb-false, leb-true, leb-false, le-ltb}
+use denote.Ref.{now}
 use Rattle.base.specs.Pick.{pick}
 use Rattle.base.specs.Part.{part, byteAt}
 use Rattle.record.specs.Name.{letter}
 use Rattle.scan.specs.Class.{run}
 use Rattle.scan.specs.declared.Class.the-variants as Class
+use Rattle.scan.proofs.Runs.{run-stop, run-end, run-from, run-stops, white-no-zero}
 use Rattle.scan.proofs.Ends.{Ends, ends-within, run-ends}
 use Rattle.string_literal.specs.Text.{stringLiteral}
 use Rattle.string_literal.proofs.Ends.{string-ends}
@@ -21,7 +23,9 @@ use Rattle.token.specs.declared.Form.the-variants.{Decimal, Binary, Hex,
 use Rattle.token.specs.declared.TokenKind.{TokenKind}
 use Rattle.token.specs.declared.TokenKind.the-variants.{End, NoToken, Number, Text}
 use Rattle.token.specs.declared.Token.{Token}
+use Rattle.token.specs.declared.reader.Reader.{Reader}
 use Rattle.token.specs.Token.{token, isToken, fitted, wordKind, wordToken, numberToken, textToken, pairKind, singleKind, symbolToken, longestAt, tokenFrom, tokenAt, wordOrNumber, apart, tokenAfter, Spans, SpansFrom}
+use Rattle.token.specs.Reader.{movedPast, Step}
 use Rattle.token.proofs.Spans.{none-spans, fitted-spans, longer-spans, symbol-spans, word-some, pair-within, single-within}
 use Rattle.token.proofs.Laws.{end-spans, no-spans, from-spans}
 
@@ -90,3 +94,46 @@ moves-on f e = ltb-true _ _ (sym (f .moves) ∙ e)
 -- so a reader that goes from token to token gets on
 pub step-forward : (q : List ℕ) (t : Token) → t .end ≤ length q → isToken (tokenAfter q t .kind) ≡ true → t .end < tokenAfter q t .end
 step-forward q t h e = let f = after-spans q t h in omega (arith, f .begins, moves-on f e)
+
+-- a reader's step, from any place, also one past the end
+module _ (q : List ℕ) (at : ℕ) where
+  abbrev s : ℕ
+  s = run Class.White q at
+
+  white-again : run Class.White q s ≡ s
+  white-again = go (leb (length q) s) refl
+    where
+      go : (t : Bool) → leb (length q) s ≡ t → run Class.White q s ≡ s
+      go true h = run-end Class.White q s (leb-true (length q) s h)
+      go false h = run-stop {r = false} Class.White q s (leb-false (length q) s h) (sym (run-stops Class.White white-no-zero q at)) refl
+
+  past-white : Spans (s + length q) s (tokenAt q at)
+  unfolding tokenAt tokenFrom isToken
+  past-white = go (leb (length q) s) refl
+    where
+      go : (t : Bool) → leb (length q) s ≡ t → Spans (s + length q) s (pick t (token End s s) (longestAt q s))
+      go true h = record { begins = refl; ends = omega arith; within = omega arith; moves = sym (le-ltb s s (omega arith)) }
+      go false h =
+          let f = longest-spans q s (omega (arith, leb-false (length q) s h)) in
+          record { begins = f .begins; ends = f .ends; within = omega (arith, f .within); moves = f .moves }
+
+  goes-forward : isToken (tokenAt q at .kind) ≡ true → at < tokenAt q at .end
+  goes-forward e = omega (arith, run-from Class.White q at, ltb-true s (tokenAt q at .end) (sym (past-white .moves) ∙ e))
+
+  found-again : isToken (tokenAt q at .kind) ≡ false → tokenAt q (tokenAt q at .end) ≡ tokenAt q at
+  unfolding tokenAt
+  found-again e =
+      let z : tokenAt q at .end ≡ s = omega (arith, past-white .ends, ltb-false s (tokenAt q at .end) (sym (past-white .moves) ∙ e)) in
+      ap (λ (i : ℕ). tokenFrom q (run Class.White q i)) z ∙ ap (tokenFrom q) white-again
+
+-- 01: "moves along it, one token a step"
+pub one-token-a-step : (r : Reader) → Step r
+one-token-a-step r =
+    record {
+      same = refl;
+      begins = omega (arith, run-from Class.White (now (r .query)) (r .offset), past-white (now (r .query)) (r .offset) .begins);
+      ends = refl;
+      forward = goes-forward (now (r .query)) (r .offset);
+      stays = λ e. ap (movedPast r) (found-again (now (r .query)) (r .offset) e);
+      within = λ h. at-spans (now (r .query)) (r .offset) h .within;
+    }

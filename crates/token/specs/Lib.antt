@@ -1,3 +1,4 @@
 pub mod Token
+pub mod Reader
 pub mod Examples
 pub mod Grammar

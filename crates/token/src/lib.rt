@@ -1,10 +1,14 @@
 // The tokens of a query, each the longest that fits.
+pub mod first;
 pub mod literals;
 pub mod longest;
+pub mod reader;
 pub mod symbol;
 pub mod word;
 
-use crate::longest::longest_at;
+use crate::reader::moved_past;
+use crate::reader::next_token;
+use crate::reader::reader_at;
 use base::order::Operator;
 ghost use mathlib.Core.Path.{_≡_};
 ghost use Prim.Native.Nat.{_<_};
@@ -97,15 +101,14 @@ pub fn is_word_or_number(k: TokenKind) -> bool
 pub fn token_at(q: &[u8], at: usize) -> Token
     ensures { λ r. ⌜ (r ≡ tokenAt (now (q .entry)) at) × SpansIf (length (now (q .entry))) at r ⌝ }
 {
-    let s = scan::run_end(scan::Class::White, q, at);
-    if q.len() <= s {
-        return Token {
-            kind: TokenKind::End,
-            start: s,
-            end: s,
-        };
-    }
-    longest_at(q, s)
+    next_token(reader_at(q, at))
+}
+
+// The first token past another, also one that touches it.
+fn token_past(q: &[u8], t: Token) -> Token
+    ensures { λ r. ⌜ (r ≡ tokenAt (now (q .entry)) (t .end)) × SpansIf (length (now (q .entry))) (t .end) r ⌝ }
+{
+    next_token(moved_past(reader_at(q, t.start), t))
 }
 
 // The token after another.
@@ -114,7 +117,7 @@ pub fn token_after(q: &[u8], t: Token) -> Token
 {
     let at = t.end;
     let before = t.kind;
-    let n = token_at(q, at);
+    let n = token_past(q, t);
     let kind = n.kind;
     let start = n.start;
     if is_word_or_number(before) & is_word_or_number(kind) & (start == at) {
