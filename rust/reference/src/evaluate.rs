@@ -1,10 +1,11 @@
 //! The evaluation of a query on an instance, and the bound of its steps.
 
 use crate::check;
-use crate::instance::decode;
+use crate::instance::{decode, Slot};
 use crate::meaning::{Judgement, Meaning};
+use crate::record::Table;
 use crate::refusal::Refusal;
-use crate::syntax::{Comparison, Join};
+use crate::syntax::{Comparison, Join, Query};
 
 #[derive(Clone, Copy, Debug, PartialEq, Eq)]
 pub struct Answer {
@@ -16,12 +17,43 @@ pub struct Answer {
 /// before OR, in a group and between groups.
 const JOINS: [(Join, bool); 4] = [(Join::GroupOr, true), (Join::GroupAnd, false), (Join::Or, true), (Join::And, false)];
 
+/// A query that the check accepts, parsed for a table.
+pub struct Prepared<'a> {
+    query: &'a [u8],
+    table: Table,
+    comparisons: Query,
+}
+
+impl<'a> Prepared<'a> {
+    pub fn new(query: &'a [u8], table: &[u8]) -> Result<Self, Refusal> {
+        let (table, comparisons) = check::read(query, table)?;
+        Ok(Prepared { query, table, comparisons })
+    }
+
+    pub fn evaluate(&self, instance: &[u8]) -> Result<Answer, Refusal> {
+        let slots = decode(&self.table, instance)?;
+        let (included, steps) = joined(&self.meaning(&slots), &self.comparisons, &JOINS);
+        Ok(Answer { included, steps })
+    }
+
+    /// What the steps may not exceed: one and what it reads for each comparison, skipped ones included.
+    pub fn bound(&self, instance: &[u8]) -> Result<u64, Refusal> {
+        let slots = decode(&self.table, instance)?;
+        let meaning = self.meaning(&slots);
+        Ok(self.comparisons.iter().map(|(comparison, _)| 1 + meaning.reads(comparison)).sum())
+    }
+
+    fn meaning<'m>(&'m self, slots: &'m [Slot]) -> Meaning<'m> {
+        Meaning { query: self.query, table: &self.table, slots }
+    }
+}
+
 pub fn evaluate(query: &[u8], table: &[u8], instance: &[u8]) -> Result<Answer, Refusal> {
-    let (table, comparisons) = check::read(query, table)?;
-    let slots = decode(&table, instance)?;
-    let meaning = Meaning { query, table: &table, slots: &slots };
-    let (included, steps) = joined(&meaning, &comparisons, &JOINS);
-    Ok(Answer { included, steps })
+    Prepared::new(query, table)?.evaluate(instance)
+}
+
+pub fn bound(query: &[u8], table: &[u8], instance: &[u8]) -> Result<u64, Refusal> {
+    Prepared::new(query, table)?.bound(instance)
 }
 
 fn joined(meaning: &Meaning, list: &[(Comparison, Join)], joins: &[(Join, bool)]) -> Judgement {
@@ -35,12 +67,4 @@ fn joined(meaning: &Meaning, list: &[(Comparison, Join)], joins: &[(Join, bool)]
         }
     }
     (!decider, steps)
-}
-
-/// What the steps may not exceed: one and what it reads for each comparison, skipped ones included.
-pub fn bound(query: &[u8], table: &[u8], instance: &[u8]) -> Result<u64, Refusal> {
-    let (table, comparisons) = check::read(query, table)?;
-    let slots = decode(&table, instance)?;
-    let meaning = Meaning { query, table: &table, slots: &slots };
-    Ok(comparisons.iter().map(|(comparison, _)| 1 + meaning.reads(comparison)).sum())
 }

@@ -22,7 +22,7 @@ pub mod token;
 pub mod value;
 
 pub use check::check;
-pub use evaluate::{bound, evaluate, Answer};
+pub use evaluate::{bound, evaluate, Answer, Prepared};
 pub use fault_text::{fault_text, FaultText};
 pub use mark::{mark, Totals};
 pub use refusal::Refusal;

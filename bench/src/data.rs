@@ -1,0 +1,121 @@
+//! The tables and runs that are measured: deterministic, and the same for every contestant.
+
+use reference::datetime::{parse, Datetime};
+use reference::record::write;
+
+pub const INSTANCE: u16 = 0x0300;
+const CLASS: u16 = 0x0200;
+const ARRAY: u16 = 0x0100;
+
+/// The values of one instance of the sample class.
+pub struct Values {
+    pub on: bool,
+    pub temp: i64,
+    pub dev: Vec<u64>,
+    pub name: String,
+    pub since: String,
+    pub r: f64,
+}
+
+/// A table with its values, in records and as a peer would hold them.
+pub struct Setting {
+    pub table: Vec<u8>,
+    pub run: Vec<u8>,
+    pub values: Vec<Values>,
+}
+
+impl Setting {
+    /// Six properties; instances of about a hundred bytes.
+    pub fn small(instances: usize) -> Setting {
+        Setting::new(0, instances)
+    }
+
+    /// The same six before 122 strings of 40 characters each.
+    pub fn large(instances: usize) -> Setting {
+        Setting::new(122, instances)
+    }
+
+    pub fn new(further: usize, instances: usize) -> Setting {
+        let further_body = write(6, "a string of forty characters, or nearly.".as_bytes()).repeat(further);
+        let values: Vec<Values> = (0..instances).map(values).collect();
+        let bodies = values.iter().map(|v| write(INSTANCE, &[record(v), further_body.clone()].concat()));
+        Setting { table: table(further), run: bodies.collect::<Vec<_>>().concat(), values }
+    }
+
+    pub fn marks(&self) -> Vec<u8> {
+        vec![0; self.values.len()]
+    }
+}
+
+pub fn table(further: usize) -> Vec<u8> {
+    let sample = [(1, "On"), (3, "Temp"), (ARRAY | 2, "Dev"), (6, "Name"), (9, "Since"), (5, "R")];
+    let mut out = write(CLASS, b"P");
+    for (kind, name) in sample {
+        out.extend(write(kind, name.as_bytes()));
+    }
+    for n in 0..further {
+        out.extend(write(6, format!("Further{n}").as_bytes()));
+    }
+    out
+}
+
+/// Values that a filter of each kind includes about half the time.
+fn values(n: usize) -> Values {
+    let x = (n as u64 + 1).wrapping_mul(0x9E37_79B9_7F4A_7C15) >> 32;
+    Values {
+        on: x % 2 == 0,
+        temp: (x % 101) as i64 - 50,
+        dev: if x % 3 == 0 { vec![3, 14] } else { vec![3, 15, x % 20] },
+        name: format!("{}_{}", if x % 2 == 0 { "FAN" } else { "PUMP" }, x % 1000),
+        since: format!("2005{:02}03112233.000000+000", 1 + x % 12),
+        r: (x % 100) as f64 / 100.0,
+    }
+}
+
+fn record(v: &Values) -> Vec<u8> {
+    let dev: Vec<u8> = v.dev.iter().flat_map(|x| write(2, &x.to_le_bytes())).collect();
+    [
+        write(1, &[u8::from(v.on)]),
+        write(3, &v.temp.to_le_bytes()),
+        write(ARRAY | 2, &dev),
+        write(6, v.name.as_bytes()),
+        write(9, v.since.as_bytes()),
+        write(5, &v.r.to_le_bytes()),
+    ]
+    .concat()
+}
+
+const SUMMER: &str = "20050701000000.000000+000";
+
+/// Microseconds, as a peer without datetimes would hold a timestamp.
+pub fn moment(timestamp: &str) -> i128 {
+    match parse(timestamp.as_bytes()) {
+        Some(Datetime::Timestamp(moment)) => moment,
+        other => panic!("{timestamp} reads as {other:?}"),
+    }
+}
+
+/// A kind of filter, as FQL and, where it can be said there, as the condition of a SELECT.
+pub struct Filter {
+    pub kind: &'static str,
+    pub fql: String,
+    pub sql: Option<String>,
+}
+
+pub fn filters() -> Vec<Filter> {
+    let filter = |kind, fql: &str, sql: Option<&str>| Filter { kind, fql: fql.into(), sql: sql.map(Into::into) };
+    let many: Vec<String> = (0..16).map(|n| format!("Temp <> {}", 1000 + n)).collect();
+    let many = many.join(" AND ");
+    vec![
+        filter("one comparison", "Temp > 0", Some("Temp > 0")),
+        filter("sixteen comparisons", &many, Some(&many)),
+        filter("array", "Dev = {3,14}", None),
+        filter("ANY", "ANY Dev = 14", None),
+        filter("LIKE", "Name LIKE 'FAN_.*'", Some("Name GLOB 'FAN_*'")),
+        filter(
+            "datetime and real",
+            &format!("Since < '{SUMMER}' AND R >= .25"),
+            Some(&format!("Since < {} AND R >= .25", moment(SUMMER))),
+        ),
+    ]
+}

@@ -1,0 +1,15 @@
+//! One call of mark and nothing else, for a profiler: `bench profile KIND`.
+
+use crate::data::{filters, Setting};
+
+pub fn run(kind: &str) {
+    let filters = filters();
+    let filter = filters.iter().find(|filter| filter.kind == kind).unwrap_or_else(|| {
+        let kinds: Vec<&str> = filters.iter().map(|filter| filter.kind).collect();
+        panic!("the kinds are {kinds:?}")
+    });
+    let setting = Setting::small(2_000);
+    let mut marks = setting.marks();
+    let totals = fql::mark(filter.fql.as_bytes(), &setting.table, &setting.run, &mut marks).unwrap();
+    println!("{totals:?}");
+}
