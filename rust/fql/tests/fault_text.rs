@@ -2,9 +2,9 @@
 
 mod common;
 
-use common::{agree_on_fault_text, for_each_seed};
+use common::agree_on_fault_text;
 use reference::examples::fault_texts;
-use reference::random::Random;
+use reference::random::{for_each_seed, Random};
 use reference::{cases, check, FaultText};
 
 #[test]
@@ -29,12 +29,10 @@ fn of_empty_slices() {
 }
 
 /// The part that a refusal shows starts at its place.
-fn run(seed: u64) {
-    println!("seed {seed}");
-    let mut r = Random::new(seed);
+fn run(r: &mut Random) {
     let mut refused = 0;
     for _ in 0..20_000 {
-        let case = cases::random(&mut r);
+        let case = cases::random(r);
         let (number, place) = (r.below(45) as u64, r.below(case.query.len() + case.table.len() + 2) as u64);
         agree_on_fault_text(&case.query, &case.table, number, place);
         if let Err(refusal) = check(&case.query, &case.table) {

@@ -4,11 +4,11 @@ mod common;
 
 use std::collections::BTreeMap;
 
-use common::{agree, agree_on_marks, for_each_seed};
+use common::{agree, agree_on_marks};
 use reference::cases::call;
 use reference::cases::run::{random, RunCase};
 use reference::examples::runs;
-use reference::random::Random;
+use reference::random::{for_each_seed, Random};
 use reference::{Refusal, Totals};
 
 const CASES: usize = 12_000;
@@ -42,13 +42,11 @@ fn hold_to_evaluate(case: &RunCase, totals: Totals, marks: &[u8]) {
     assert_eq!(marks[instances.len()..], case.marks[instances.len()..]);
 }
 
-fn run(seed: u64) {
-    println!("seed {seed}");
-    let mut r = Random::new(seed);
+fn run(r: &mut Random) {
     let mut counts: BTreeMap<String, usize> = BTreeMap::new();
     let mut count = |what: String, n: u64| *counts.entry(what).or_default() += n as usize;
     for _ in 0..CASES {
-        let case = random(&mut r);
+        let case = random(r);
         let (found, marks) = agree_on_marks(&case.query, &case.table, &case.run, &case.marks);
         match found {
             Ok(totals) => {

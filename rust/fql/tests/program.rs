@@ -1,20 +1,17 @@
 //! The program, run in folders of its own, against stored output and against the second evaluator's.
 
-mod common;
-
 use std::fs::{self, Permissions};
 use std::os::unix::fs::{symlink, PermissionsExt};
 use std::os::unix::process::CommandExt;
 use std::path::{Path, PathBuf};
 use std::process::Command;
 
-use common::for_each_seed;
 use reference::cases::call;
 use reference::cases::run::random;
 use reference::examples::programs;
 use reference::examples::setting::sample;
 use reference::program::{output, Files};
-use reference::random::Random;
+use reference::random::{for_each_seed, Random};
 
 /// A folder of a test's own, empty.
 fn folder(name: &str) -> PathBuf {
@@ -140,13 +137,11 @@ fn of_files_without_permission() {
     fs::remove_dir_all(&folder).unwrap();
 }
 
-fn compare(seed: u64) {
-    println!("seed {seed}");
-    let mut r = Random::new(seed);
+fn compare(r: &mut Random) {
     let folder = folder("random");
     let mut lines = String::new();
     for _ in 0..400 {
-        let case = random(&mut r);
+        let case = random(r);
         let files = Files { table: case.table, query: case.query, run: case.run };
         write(&folder, &files);
         let expected = output(&files);

@@ -2,11 +2,11 @@
 
 mod common;
 
-use common::{agree, for_each_seed};
+use common::agree;
 use reference::bound;
 use reference::cases::spread::Spread;
 use reference::cases::{call, random, Case};
-use reference::random::Random;
+use reference::random::{for_each_seed, Random};
 
 const CASES: usize = 320_000;
 /// How often each refusal, verdict and form of comparison has to come up.
@@ -23,12 +23,10 @@ fn try_case(case: &Case) -> Result<reference::Answer, reference::Refusal> {
     found
 }
 
-fn run(seed: u64) {
-    println!("seed {seed}");
-    let mut r = Random::new(seed);
+fn run(r: &mut Random) {
     let mut spread = Spread::default();
     for _ in 0..CASES {
-        let case = random(&mut r);
+        let case = random(r);
         let found = try_case(&case);
         spread.add(&case, found);
     }

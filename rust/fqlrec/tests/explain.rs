@@ -4,7 +4,7 @@ use fqlrec::{explain, read, Files};
 use reference::cases::run::{random, RunCase};
 use reference::examples::programs;
 use reference::program::output;
-use reference::random::Random;
+use reference::random::for_each_seed;
 use reference::record::write;
 
 const TEXT: &str = "\
@@ -190,9 +190,10 @@ fn of_the_program_s_examples() {
 
 #[test]
 fn of_random_files() {
-    let mut r = Random::for_test("files");
-    for _ in 0..2_000 {
-        let RunCase { table, query, run, .. } = random(&mut r);
-        hold_to_program(&reference::program::Files { table, query, run });
-    }
+    for_each_seed(|r| {
+        for _ in 0..2_000 {
+            let RunCase { table, query, run, .. } = random(r);
+            hold_to_program(&reference::program::Files { table, query, run });
+        }
+    });
 }

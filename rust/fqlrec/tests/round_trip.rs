@@ -3,7 +3,7 @@
 use fqlrec::{read, show, Files};
 use reference::cases::{self, run};
 use reference::examples::setting::{sample, types};
-use reference::random::Random;
+use reference::random::{for_each_seed, Random};
 use reference::record::write;
 
 fn round_trip(table: &[u8], run: &[u8]) -> String {
@@ -19,12 +19,10 @@ fn instance(body: &[u8]) -> Vec<u8> {
     write(0x0300, body)
 }
 
-#[test]
-fn of_random_and_damaged_runs() {
-    let mut r = Random::for_test("runs");
+fn runs(r: &mut Random) {
     let mut with_words = 0;
     for _ in 0..1_500 {
-        let case = run::random(&mut r);
+        let case = run::random(r);
         let text = round_trip(&case.table, &case.run);
         with_words += usize::from(text.starts_with("class") && text.contains(" = "));
         round_trip(&r.damage(&case.table), &r.damage(&case.run));
@@ -33,10 +31,13 @@ fn of_random_and_damaged_runs() {
 }
 
 #[test]
-fn of_random_and_damaged_instances() {
-    let mut r = Random::for_test("instances");
+fn of_random_and_damaged_runs() {
+    for_each_seed(runs);
+}
+
+fn instances(r: &mut Random) {
     for _ in 0..1_500 {
-        let case = cases::random(&mut r);
+        let case = cases::random(r);
         if case.instance.len() < 65_500 {
             round_trip(&case.table, &instance(&case.instance));
             let damaged = r.damage(&case.instance);
@@ -46,25 +47,31 @@ fn of_random_and_damaged_instances() {
 }
 
 #[test]
-fn of_random_bytes() {
-    let mut r = Random::for_test("bytes");
+fn of_random_and_damaged_instances() {
+    for_each_seed(instances);
+}
+
+fn bytes(r: &mut Random) {
     let bytes = |r: &mut Random| -> Vec<u8> {
         let n = r.below(40);
         // Small numbers, so that lengths and kinds often fit.
         (0..n).map(|_| if r.chance(3) { r.byte() } else { r.pick(&[0, 0, 0, 1, 2, 3, 6, 8, b'A', b'_']) }).collect()
     };
     for _ in 0..5_000 {
-        let (table, run, body) = (bytes(&mut r), bytes(&mut r), bytes(&mut r));
+        let (table, run, body) = (bytes(r), bytes(r), bytes(r));
         round_trip(&table, &run);
         round_trip(&table, &instance(&body));
         round_trip(&types().table(), &[instance(&body), run].concat());
     }
 }
 
-/// Each record of the instance, with random bodies of the right and of the wrong length.
 #[test]
-fn of_values_of_every_type() {
-    let mut r = Random::for_test("values");
+fn of_random_bytes() {
+    for_each_seed(bytes);
+}
+
+/// Each record of the instance, with random bodies of the right and of the wrong length.
+fn values(r: &mut Random) {
     let kinds = [1, 2, 3, 4, 5, 6, 7, 8, 9, 10];
     for _ in 0..5_000 {
         let kind = r.pick(&kinds);
@@ -75,6 +82,11 @@ fn of_values_of_every_type() {
         let table = [write(0x0200, b"P"), write(kind, b"x"), write(kind | 0x0100, b"xs")].concat();
         round_trip(&table, &instance(&[scalar, array].concat()));
     }
+}
+
+#[test]
+fn of_values_of_every_type() {
+    for_each_seed(values);
 }
 
 /// The same lines with other blanks, and with comments and empty lines.
@@ -91,25 +103,26 @@ fn in_another_layout(r: &mut Random, text: &str) -> String {
     out
 }
 
-#[test]
-fn of_texts_in_another_layout() {
-    let mut r = Random::for_test("layouts");
+fn layouts(r: &mut Random) {
     for _ in 0..400 {
-        let case = run::random(&mut r);
+        let case = run::random(r);
         let text = show(&Files { table: case.table, run: case.run });
-        let other = in_another_layout(&mut r, &text);
+        let other = in_another_layout(r, &text);
         let files = read(other.as_bytes()).unwrap_or_else(|problem| panic!("{problem}\n{other}"));
         assert_eq!(show(&files), text);
     }
 }
 
-/// A damaged text is read, or has a problem at a place that is there.
 #[test]
-fn of_damaged_texts() {
-    let mut r = Random::for_test("texts");
+fn of_texts_in_another_layout() {
+    for_each_seed(layouts);
+}
+
+/// A damaged text is read, or has a problem at a place that is there.
+fn texts(r: &mut Random) {
     let (mut good, mut bad) = (0, 0);
     for _ in 0..2_500 {
-        let case = cases::random(&mut r);
+        let case = cases::random(r);
         let instance = if case.instance.len() < 2_000 { instance(&case.instance) } else { vec![] };
         let text = show(&Files { table: case.table, run: instance });
         let damaged = r.damage(text.as_bytes());
@@ -126,6 +139,11 @@ fn of_damaged_texts() {
         }
     }
     assert!(good >= 100 && bad >= 100, "{good} read, {bad} not");
+}
+
+#[test]
+fn of_damaged_texts() {
+    for_each_seed(texts);
 }
 
 /// Every kind of empty, and a whole that is broken at each byte.

@@ -2,6 +2,16 @@
 
 pub struct Random(u64);
 
+/// Runs a random test with its fixed seed, and once more with the one in `FQL_SEED` if it is set. A failing run prints
+/// its seed.
+pub fn for_each_seed(run: impl Fn(&mut Random)) {
+    let added = std::env::var("FQL_SEED").ok().map(|seed| seed.parse().expect("FQL_SEED is a number"));
+    for seed in [20_260_101].into_iter().chain(added) {
+        println!("seed {seed}");
+        run(&mut Random::new(seed));
+    }
+}
+
 impl Random {
     pub fn new(seed: u64) -> Self {
         Random(seed)

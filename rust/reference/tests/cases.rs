@@ -3,15 +3,13 @@
 
 use reference::cases::spread::Spread;
 use reference::cases::{call, random};
-use reference::random::Random;
+use reference::random::{for_each_seed, Random};
 use reference::{bound, check, evaluate};
 
-#[test]
-fn cases_give_what_they_were_made_for() {
-    let mut r = Random::for_test("cases");
+fn run(r: &mut Random) {
     let mut spread = Spread::default();
     for _ in 0..40_000 {
-        let case = random(&mut r);
+        let case = random(r);
         let found = evaluate(&case.query, &case.table, &case.instance);
         let (query, intended) = (String::from_utf8_lossy(&case.query), case.intended);
         assert!(case.is_intended(found), "{}: {found:?} in place of {intended:?}: {query}", case.sort);
@@ -26,6 +24,11 @@ fn cases_give_what_they_were_made_for() {
     }
     spread.print();
     spread.assert_at_least(30);
+}
+
+#[test]
+fn cases_give_what_they_were_made_for() {
+    for_each_seed(run);
 }
 
 #[test]

@@ -50,11 +50,3 @@ pub fn agree_on_fault_text<'a>(query: &'a [u8], table: &'a [u8], number: u64, pl
     let shown = || format!("{number} at {place}: {}", call("agree_on_fault_text", &[query, table]));
     same(found, reference::fault_text(query, table, number, place), shown)
 }
-
-/// Runs a random test with its fixed seed, and once more with the one in `FQL_SEED` if it is set.
-pub fn for_each_seed(run: impl Fn(u64)) {
-    run(20_260_101);
-    if let Ok(seed) = std::env::var("FQL_SEED") {
-        run(seed.parse().expect("FQL_SEED is a number"));
-    }
-}
