@@ -1,0 +1,100 @@
+//! Instances beside a reader over the standard library's slices: 31 with its place, and where each record starts.
+
+use fql::record::{write, ARRAY, NULL};
+use reference::random::{for_each_seed, Random};
+use reference::record::{check_instance, is_reserved, read, Property, Table};
+
+use crate::seen::Seen;
+use crate::tables::random_table;
+
+fn body(r: &mut Random, kind: u16) -> Vec<u8> {
+    let word = r.word().to_le_bytes();
+    match kind {
+        1 => vec![word[0] % 2],
+        4 => word[..4].to_vec(),
+        6 | 10 => r.pick(&["", "a", "FAN_2", "é𝄞\0"]).as_bytes().to_vec(),
+        7 => word[..2].to_vec(),
+        8 => word[..r.below(9)].to_vec(),
+        9 => {
+            let texts = ["20051003112233.000000+000", "00000229000000.000000-999", "99999999235959.999999:000"];
+            // A day that isn't there.
+            let text = if r.chance(4) { "19000229000000.000000+000" } else { r.pick(&texts) };
+            text.as_bytes().to_vec()
+        }
+        _ => word.to_vec(),
+    }
+}
+
+fn record(r: &mut Random, kind: u16) -> Vec<u8> {
+    if r.chance(5) {
+        return write(NULL, &[]);
+    }
+    if kind & ARRAY == 0 {
+        return write(kind, &body(r, kind));
+    }
+    let elements: Vec<u8> = (0..r.below(4)).flat_map(|_| record(r, kind & 0x00ff)).collect();
+    write(kind, &elements)
+}
+
+/// A query whose answer is whether the property's record is NULL, or its array without elements.
+fn asks_for_null(table: &Table, property: &Property) -> String {
+    let [class, name] = [&table.class, &property.name].map(|name| String::from_utf8(name.clone()).unwrap());
+    let path = if is_reserved(&property.name) { format!("{class}.{name}") } else { name };
+    match property.kind & ARRAY {
+        0 => format!("{path} = NULL"),
+        _ => format!("{path}[0] = NULL"),
+    }
+}
+
+/// The answer for each property, from its own record.
+fn hold(bytes: &[u8], table: &Table, instance: &[u8], seen: &mut Seen) {
+    let fault = check_instance(table, instance);
+    let (records, _) = read(instance);
+    for (number, property) in table.properties.iter().enumerate() {
+        let query = asks_for_null(table, property);
+        let found = fql::evaluate(query.as_bytes(), bytes, instance);
+        let shown = || format!("{query} on {} with {}", instance.escape_ascii(), bytes.escape_ascii());
+        match fault {
+            Some(fault) => {
+                let refusal = found.unwrap_err();
+                assert_eq!((refusal.cause.number(), refusal.place), fault, "{}", shown());
+            }
+            None => {
+                let first = read(records[number].body).0.first().map(|element| element.kind);
+                let is_null = match property.kind & ARRAY {
+                    0 => records[number].kind == NULL,
+                    _ => first.is_none_or(|kind| kind == NULL),
+                };
+                let found = found.unwrap();
+                assert_eq!((found.verdict == fql::Verdict::Included, found.steps), (is_null, 1), "{}", shown());
+                seen.add(if is_null { "NULL" } else { "a value" });
+            }
+        }
+    }
+    seen.add(if fault.is_none() { "conforming" } else { "not conforming" });
+}
+
+fn instances(r: &mut Random) {
+    let mut seen = Seen::default();
+    for _ in 0..80_000 {
+        let bytes = random_table(r);
+        let Ok(table) = Table::read(&bytes) else { continue };
+        if table.properties.is_empty() {
+            continue;
+        }
+        let mut instance: Vec<u8> = table.properties.iter().flat_map(|p| record(r, p.kind)).collect();
+        if r.chance(4) {
+            instance.extend(write(r.word() as u16, &[9; 5]));
+        }
+        hold(&bytes, &table, &instance, &mut seen);
+        for _ in 0..3 {
+            hold(&bytes, &table, &r.damage(&instance), &mut seen);
+        }
+    }
+    seen.assert_at_least(&[("conforming", 40_000), ("not conforming", 100_000), ("NULL", 30_000), ("a value", 80_000)]);
+}
+
+#[test]
+fn random_and_damaged_instances() {
+    for_each_seed(instances);
+}
