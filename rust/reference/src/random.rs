@@ -17,16 +17,6 @@ impl Random {
         Random(seed)
     }
 
-    /// The seed of a test: fixed, or the number in `FQL_SEED`, which a failing run prints.
-    pub fn for_test(name: &str) -> Self {
-        let seed = match std::env::var("FQL_SEED") {
-            Ok(text) => text.parse().expect("FQL_SEED is a number"),
-            Err(_) => 20_260_101,
-        };
-        println!("{name}: FQL_SEED={seed}");
-        Random::new(seed)
-    }
-
     pub fn word(&mut self) -> u64 {
         self.0 = self.0.wrapping_add(0x9e37_79b9_7f4a_7c15);
         let mut z = self.0;
