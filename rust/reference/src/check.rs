@@ -37,7 +37,7 @@ pub fn find(query: &[u8], table: &Table, path: &Path) -> Option<(usize, u16)> {
 pub fn literals(right: &Right) -> &[Token] {
     match right {
         Right::Literal(token) => std::slice::from_ref(token),
-        Right::Elements { elements, .. } => elements,
+        Right::Elements(elements) => elements,
         Right::Property(_) | Right::Pattern(_) => &[],
     }
 }
@@ -128,7 +128,7 @@ fn has_right_shape(c: &Comparison, left: u16, right: Option<u16>) -> bool {
     }
     let right_is_array = match &c.right {
         Right::Literal(_) | Right::Pattern(_) => false,
-        Right::Elements { .. } => true,
+        Right::Elements(_) => true,
         Right::Property(path) => match (right.is_some_and(is_array), path.index) {
             (false, Some(_)) => return false,
             (array, index) => array && index.is_none(),

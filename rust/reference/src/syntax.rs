@@ -41,7 +41,7 @@ pub enum Operation {
 #[derive(Clone, Debug, PartialEq, Eq)]
 pub enum Right {
     Literal(Token),
-    Elements { start: usize, end: usize, elements: Vec<Token> },
+    Elements(Vec<Token>),
     Property(Path),
     Pattern(Token),
 }
@@ -218,7 +218,7 @@ impl Parser<'_> {
     }
 
     fn elements(&mut self) -> Result<Right, Fault> {
-        let start = self.take().start;
+        self.take();
         let mut elements = Vec::new();
         if self.token().kind != Kind::Symbol(b'}') {
             loop {
@@ -235,8 +235,8 @@ impl Parser<'_> {
                 }
             }
         }
-        let end = self.expect(Kind::Symbol(b'}'))?.end;
-        Ok(Right::Elements { start, end, elements })
+        self.expect(Kind::Symbol(b'}'))?;
+        Ok(Right::Elements(elements))
     }
 }
 

@@ -46,7 +46,7 @@ fn form(c: &Comparison, left_is_array: bool) -> &'static str {
         (Quantifier::Every, false, ..) => "EVERY",
         (Quantifier::Every, true, ..) => "NOT EVERY",
         _ if c.left.index.is_some() => "index",
-        (.., Right::Elements { .. }) => "array literal",
+        (.., Right::Elements(_)) => "array literal",
         (.., Right::Literal(_)) => "scalar literal",
         _ if left_is_array => "array property",
         _ => "scalar property",
