@@ -1,5 +1,5 @@
 -- Laws of lists for loops over a slice: what is left at an offset, one step and at the end; parts; bytes past the end; equal bytes.
-use Prim.Native.Nat.{ℕ, zero, suc, _+_, _-_, _≤_, _<_}
+use Prim.Native.Nat.{ℕ, _+_, _-_, _≤_, _<_}
 use mathlib.Core.List.{List, [], _∷_}
 use mathlib.Core.Bool.{Bool, true, false}
 use mathlib.Core.Path.{_≡_, refl, sym, ap, _∙_}
@@ -9,7 +9,7 @@ use lib.ListN.{length, getD, take, drop, length-take, length-drop, drop-of-lengt
 use lib.Seq.{drop-cons, take-all, take-nil, length-take-le}
 use native.Mathlib.Nat.{add-sub-cancel-left, min-le-left}
 use lib.Dec.{leb, eqb}
-use borrow.Author.Tests.{leb-true, leb-false, le-leb, lt-leb, eq-eqb, ne-eqb, eqb-true}
+use borrow.Author.Tests.{leb-true, leb-false, eq-eqb, eqb-true}
 use Rattle.base.specs.Pick.{pick}
 use Rattle.base.specs.Part.{part, byteAt, sameBytes}
 use Rattle.base.proofs.Says.{Says, apart}
@@ -54,28 +54,6 @@ module _ (s : List ℕ) (start len : ℕ) where
 
   pub part-short : length (part s start len) ≤ len
   part-short = rw length-take (min-le-left len (length (drop start s)))
-
--- equal bytes, as the loop meets them
-module _ (a b : List ℕ) (i : ℕ) (inv : sameBytes a b ≡ sameBytes (drop i a) (drop i b)) where
-  pub same-longer : i < length a → length b ≤ i → false ≡ sameBytes a b
-  unfolding sameBytes
-  same-longer h k = rw (inv, left-next a i h, drop-of-length-le b k)
-
-  pub same-differ : i < length a → i < length b → (getD a i 0 ≡ getD b i 0 → ⊥) → false ≡ sameBytes a b
-  unfolding sameBytes
-  same-differ h k n = rw (inv, left-next a i h, left-next b i k, ne-eqb _ _ n)
-
-  pub same-next : i < length a → i < length b → getD a i 0 ≡ getD b i 0 → sameBytes a b ≡ sameBytes (drop (i + 1) a) (drop (i + 1) b)
-  unfolding sameBytes
-  same-next h k e = rw (inv, left-next a i h, left-next b i k, eq-eqb _ _ e)
-
-  pub same-end : length a ≤ i → leb (length b) i ≡ sameBytes a b
-  unfolding sameBytes
-  same-end h = rw (inv, drop-of-length-le a h) (go (leb (length b) i) refl)
-    where
-      go : (t : Bool) → leb (length b) i ≡ t → leb (length b) i ≡ sameBytes [] (drop i b)
-      go true e = rw (e, drop-of-length-le b (leb-true _ _ e))
-      go false e = rw (e, left-next b i (leb-false _ _ e))
 
 -- the test of equal bytes is true exactly of equal lists
 pub says-same : (a b : List ℕ) → Says (sameBytes a b) (a ≡ b)

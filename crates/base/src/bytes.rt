@@ -1,7 +1,7 @@
 // Bytes by their offset, total: what stands past the end reads as nothing.
 ghost use mathlib.Core.Path.{_≡_};
 ghost use Prim.Native.Nat.{ℕ, _<_};
-ghost use Rattle.base.specs.Part.{byteAt, part, sameBytes};
+ghost use Rattle.base.specs.Part.{byteAt, part};
 ghost use Rattle.base.specs.Range.{within};
 
 pub fn byte_at(s: &[u8], at: usize) -> u8
@@ -34,22 +34,6 @@ pub fn in_range(low: u8, high: u8, b: u8) -> bool
         return false;
     }
     b <= high
-}
-
-pub fn same_bytes(a: &[u8], b: &[u8]) -> bool
-    ensures { λ r. ⌜ r ≡ sameBytes (now (a .entry)) (now (b .entry)) ⌝ }
-{
-    let mut i = 0;
-    while i < a.len() {
-        if b.len() <= i {
-            return false;
-        }
-        if a[i] != b[i] {
-            return false;
-        }
-        i += 1;
-    }
-    b.len() <= i
 }
 
 // The byte as a number, with its bound.
