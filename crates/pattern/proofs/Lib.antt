@@ -2,6 +2,7 @@ pub mod Decides
 pub mod Fragments
 pub mod Numbering
 pub mod Runs
+pub mod Memory
 pub mod Offsets
 pub mod Sets
 pub mod Symbols

@@ -6,4 +6,5 @@ pub mod Reading
 pub mod Fragment
 pub mod Answers
 pub mod Matcher
+pub mod Remembered
 pub mod Examples

@@ -3,5 +3,6 @@ pub mod character;
 pub mod fragment;
 pub mod matcher;
 pub mod reader;
+pub mod remembered;
 pub mod set;
 pub mod symbol;

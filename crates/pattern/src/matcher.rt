@@ -3,9 +3,12 @@ ghost use mathlib.Core.Path.{_≡_};
 ghost use mathlib.Core.List.{[], _∷_};
 ghost use Rattle.pattern.specs.Reading.{parse};
 ghost use Rattle.pattern.specs.Matcher.{initial, stepped, accepted, likeOf, matchOf};
+ghost use Rattle.pattern.specs.Remembered.{Remembers};
 use crate::fragment::keep_if;
 use crate::reader::PatternRead;
 use crate::reader::read_pattern;
+use crate::remembered::SLOTS;
+use crate::remembered::step_once;
 use base::bytes::piece;
 use unicode::scalar::scalar_of;
 use unicode::sequence::sequence_at;
@@ -66,8 +69,15 @@ impl Live {
     }
 }
 
-// LIKE of a text in UTF-8. All its characters are counted, also where no symbol is live any more.
-pub fn match_text(p: &[u32], text: &[u8]) -> Matched
+// LIKE of a text in UTF-8, with a memory of steps. All its characters are counted, also where no symbol is live any more.
+fn match_with(
+    p: &[u32],
+    text: &[u8],
+    sets: &mut [u64],
+    characters: &mut [u32],
+    nexts: &mut [u64],
+) -> Matched
+    requires { ⌜ Remembers (parse (now p)) (now sets) (now characters) (now nexts) ⌝ }
     ensures { λ r. ⌜ r ≡ matchOf (now (p .entry)) (now (text .entry)) ⌝ }
 {
     let mut live = Live::start();
@@ -81,7 +91,8 @@ pub fn match_text(p: &[u32], text: &[u8]) -> Matched
                 characters: count,
             };
         }
-        live = live.step(p, scalar_of(piece(text, at, n)));
+        let c = scalar_of(piece(text, at, n));
+        live = step_once(live, p, c, sets, characters, nexts);
         at += n;
         count += 1;
     }
@@ -89,6 +100,16 @@ pub fn match_text(p: &[u32], text: &[u8]) -> Matched
         holds: live.accepts(p),
         characters: count,
     }
+}
+
+// LIKE of a text in UTF-8. The zeros are a step too: no live symbol leads to none.
+pub fn match_text(p: &[u32], text: &[u8]) -> Matched
+    ensures { λ r. ⌜ r ≡ matchOf (now (p .entry)) (now (text .entry)) ⌝ }
+{
+    let mut sets = [0u64; SLOTS];
+    let mut characters = [0u32; SLOTS];
+    let mut nexts = [0u64; SLOTS];
+    match_with(p, text, &mut sets, &mut characters, &mut nexts)
 }
 
 // LIKE of a text of one character.

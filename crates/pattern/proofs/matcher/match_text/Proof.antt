@@ -1,78 +1,29 @@
+use Rattle.pattern.proofs.Memory as law
 use borrow.Author.Needs.{needs}
-use Rattle.pattern.proofs.Texts as law
-use Rattle.pattern.proofs.Texts.{Reached}
-use Rattle.unicode.proofs.WellFormed.{sequence-fits}
-use native.Mathlib.Omega.{arith}
-use lib.ListN.{length}
-use Prim.Native.Nat.{_-_}
 use Rattle.pattern.proofs.matcher.match_text.Statement.{statement}
 use Rattle.pattern.proofs.matcher.match_text.Tie as tie
 
-abbrev Inv-loop : tie.InvT-loop
-Inv-loop p text live₀ at₀ count₀ live at count = Reached p text live at count
+slice-aggregate-match-with : tie.Need-slice-aggregate-match-with
+slice-aggregate-match-with c = search needs
 
-abbrev μ-loop : tie.MeasureT-loop
-μ-loop p text live₀ at₀ count₀ live at count = length text - at
+slice-aggregate-match-with-2 : tie.Need-slice-aggregate-match-with-2
+slice-aggregate-match-with-2 c = search needs
 
-start-requires : tie.Need-start-requires Inv-loop μ-loop
-start-requires c κs = search needs
+slice-aggregate-match-with-3 : tie.Need-slice-aggregate-match-with-3
+slice-aggregate-match-with-3 c = search needs
 
-loop-holds : tie.Need-loop-holds Inv-loop μ-loop
-loop-holds c = search law.reached-start
+match-with-requires : tie.Need-match-with-requires
+match-with-requires c κs = search law.remembers-none
 
-sequence-at-requires : tie.Need-sequence-at-requires Inv-loop μ-loop
-sequence-at-requires c κs = search needs
-
-accepts-requires : tie.Need-accepts-requires Inv-loop μ-loop
-accepts-requires c κs = search needs
-
-returns : tie.Need-returns Inv-loop μ-loop
-returns c = search law.match-stop
-
-piece-requires : tie.Need-piece-requires Inv-loop μ-loop
-piece-requires c κs = search needs
-
-scalar-of-requires : tie.Need-scalar-of-requires Inv-loop μ-loop
-scalar-of-requires c κs = search needs
-
-step-requires : tie.Need-step-requires Inv-loop μ-loop
-step-requires c κs = search needs
-
-add-at : tie.Need-add-at Inv-loop μ-loop
-add-at c = omega (arith, sequence-fits (c .before .before .before .before .before .before .before .before .before .before .args .text .now) (c .before .before .before .before .before .before .loop .at), c .before .before .before .before .sequence-at .ensures)
-
-add-count : tie.Need-add-count Inv-loop μ-loop
-add-count c = omega (arith, c .before .before .before .before .before .before .loop .inv .fewer)
-
-loop-less : tie.Need-loop-less Inv-loop μ-loop
-loop-less c = omega (arith, sequence-fits (c .before .before .before .before .before .before .before .before .before .before .args .text .now) (c .before .before .before .before .before .before .loop .at), c .before .before .before .before .sequence-at .ensures)
-
-loop-again : tie.Need-loop-again Inv-loop μ-loop
-loop-again c = search law.reached-next
-
-accepts-requires-2 : tie.Need-accepts-requires-2 Inv-loop μ-loop
-accepts-requires-2 c κs = search needs
-
-returns-2 : tie.Need-returns-2 Inv-loop μ-loop
-returns-2 c = search law.match-end
+returns : tie.Need-returns
+returns c = search needs
 
 pub match-text-spec : {M : Type 1} → statement M
 match-text-spec =
     tie.close
     (tie.spec
-    Inv-loop
-    μ-loop
-    start-requires
-    loop-holds
-    sequence-at-requires
-    accepts-requires
-    returns
-    piece-requires
-    scalar-of-requires
-    step-requires
-    add-at
-    add-count
-    loop-less
-    loop-again
-    accepts-requires-2
-    returns-2)
+    slice-aggregate-match-with
+    slice-aggregate-match-with-2
+    slice-aggregate-match-with-3
+    match-with-requires
+    returns)
