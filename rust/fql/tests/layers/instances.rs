@@ -2,10 +2,10 @@
 
 use fql::record::{write, ARRAY, NULL};
 use reference::random::{for_each_seed, Random};
-use reference::record::{check_instance, is_reserved, read, Property, Table};
+use reference::record::{check_instance, read, Property, Record, Table};
 
 use crate::seen::Seen;
-use crate::tables::random_table;
+use crate::tables::{asks_for_null, random_table};
 
 fn body(r: &mut Random, kind: u16) -> Vec<u8> {
     let word = r.word().to_le_bytes();
@@ -36,39 +36,31 @@ fn record(r: &mut Random, kind: u16) -> Vec<u8> {
     write(kind, &elements)
 }
 
-/// A query whose answer is whether the property's record is NULL, or its array without elements.
-fn asks_for_null(table: &Table, property: &Property) -> String {
-    let [class, name] = [&table.class, &property.name].map(|name| String::from_utf8(name.clone()).unwrap());
-    let path = if is_reserved(&property.name) { format!("{class}.{name}") } else { name };
+/// Whether a property's record is NULL, or its array has no first element or a NULL there.
+fn is_null(property: &Property, record: &Record) -> bool {
     match property.kind & ARRAY {
-        0 => format!("{path} = NULL"),
-        _ => format!("{path}[0] = NULL"),
+        0 => record.kind == NULL,
+        _ => read(record.body).0.first().is_none_or(|element| element.kind == NULL),
     }
 }
 
-/// The answer for each property, from its own record.
+/// The answer for each property is from its own record, and there is none where the instance doesn't conform.
 fn hold(bytes: &[u8], table: &Table, instance: &[u8], seen: &mut Seen) {
     let fault = check_instance(table, instance);
     let (records, _) = read(instance);
     for (number, property) in table.properties.iter().enumerate() {
         let query = asks_for_null(table, property);
+        let expected = match fault {
+            Some(fault) => Err(fault),
+            None => Ok((is_null(property, &records[number]), 1)),
+        };
         let found = fql::evaluate(query.as_bytes(), bytes, instance);
+        let found = found.map(|answer| (answer.verdict == fql::Verdict::Included, answer.steps));
+        let found = found.map_err(|refusal| (refusal.cause.number(), refusal.place));
         let shown = || format!("{query} on {} with {}", instance.escape_ascii(), bytes.escape_ascii());
-        match fault {
-            Some(fault) => {
-                let refusal = found.unwrap_err();
-                assert_eq!((refusal.cause.number(), refusal.place), fault, "{}", shown());
-            }
-            None => {
-                let first = read(records[number].body).0.first().map(|element| element.kind);
-                let is_null = match property.kind & ARRAY {
-                    0 => records[number].kind == NULL,
-                    _ => first.is_none_or(|kind| kind == NULL),
-                };
-                let found = found.unwrap();
-                assert_eq!((found.verdict == fql::Verdict::Included, found.steps), (is_null, 1), "{}", shown());
-                seen.add(if is_null { "NULL" } else { "a value" });
-            }
+        assert_eq!(found, expected, "{}", shown());
+        if let Ok((included, _)) = found {
+            seen.add(if included { "NULL" } else { "a value" });
         }
     }
     seen.add(if fault.is_none() { "conforming" } else { "not conforming" });

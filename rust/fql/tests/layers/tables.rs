@@ -3,7 +3,7 @@
 
 use fql::record::{write, ARRAY, CLASS, NULL};
 use reference::random::{for_each_seed, Random};
-use reference::record::{is_reserved, Table};
+use reference::record::{is_reserved, Property, Table};
 
 use crate::ask::{mark_of, marks, refusal};
 use crate::seen::Seen;
@@ -44,7 +44,17 @@ fn some_value(kind: u16) -> Vec<u8> {
     }
 }
 
-/// Asks each name, in another case, for NULL on instances of which each has one value: only the property's own is no
+/// A query whose answer is whether a property is NULL, or its first element is or isn't there; the names are in another
+/// case.
+pub fn asks_for_null(table: &Table, property: &Property) -> String {
+    let name = String::from_utf8(property.name.to_ascii_uppercase()).unwrap();
+    let class = String::from_utf8(table.class.to_ascii_lowercase()).unwrap();
+    let path = if is_reserved(&property.name) { format!("{class}.{name}") } else { name };
+    let index = if property.kind & ARRAY == 0 { "" } else { "[0]" };
+    format!("{path}{index} = NULL")
+}
+
+/// Asks each name for NULL on instances of which each has one value: only the property's own is no
 /// NULL. Were it of another kind, the instance would not conform.
 fn hold_properties(bytes: &[u8], table: &Table) {
     let holding = |one: usize| -> Vec<u8> {
@@ -53,12 +63,9 @@ fn hold_properties(bytes: &[u8], table: &Table) {
     };
     let instances: Vec<Vec<u8>> = (0..table.properties.len()).map(holding).collect();
     for (number, property) in table.properties.iter().enumerate() {
-        let name = String::from_utf8(property.name.to_ascii_uppercase()).unwrap();
-        let class = String::from_utf8(table.class.to_ascii_lowercase()).unwrap();
-        let path = if is_reserved(&property.name) { format!("{class}.{name}") } else { name };
-        let index = if property.kind & ARRAY == 0 { "" } else { "[0]" };
+        let query = asks_for_null(table, property);
         let expected: Vec<u8> = (0..instances.len()).map(|n| mark_of(n != number)).collect();
-        assert_eq!(marks(&format!("{path}{index} = NULL"), bytes, &instances), expected, "{}", bytes.escape_ascii());
+        assert_eq!(marks(&query, bytes, &instances), expected, "{query} with {}", bytes.escape_ascii());
     }
 }
 
