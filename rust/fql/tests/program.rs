@@ -120,7 +120,8 @@ fn of_files_without_permission() {
     fs::create_dir_all(&folder).unwrap();
     fs::set_permissions(&folder, Permissions::from_mode(0o755)).unwrap();
     let program = folder.join("fql");
-    fs::copy(program_path(), &program).unwrap();
+    // Copied by another process: a program that this one has open for writing while it forks can't be run.
+    assert!(Command::new("cp").arg(program_path()).arg(&program).status().unwrap().success());
     for (files, expected) in UNREADABLE {
         write(&folder, &sample_files());
         let forbid = |file: &&str| fs::set_permissions(folder.join(file), Permissions::from_mode(0o000)).unwrap();
