@@ -8,9 +8,10 @@ use reference::cases::spread::Spread;
 use reference::cases::{call, random, Case};
 use reference::random::{for_each_seed, Random};
 
-const CASES: usize = 320_000;
-/// How often each refusal, verdict and form of comparison has to come up.
-const LEAST: usize = 500;
+/// Of each of the two streams, which two cores share.
+const CASES: usize = 160_000;
+/// How often each refusal, verdict and form of comparison has to come up in a stream.
+const LEAST: usize = 250;
 
 fn try_case(case: &Case) -> Result<reference::Answer, reference::Refusal> {
     let found = agree(&case.query, &case.table, &case.instance);
@@ -37,4 +38,9 @@ fn run(r: &mut Random) {
 #[test]
 fn random_cases() {
     for_each_seed(run);
+}
+
+#[test]
+fn further_random_cases() {
+    for_each_seed(|r| run(&mut Random::new(r.word())));
 }
