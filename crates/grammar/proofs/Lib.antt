@@ -9,4 +9,3 @@ pub mod Exact
 pub mod Local
 pub mod LocalComparison
 pub mod Place
-pub mod Examples

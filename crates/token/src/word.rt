@@ -7,56 +7,33 @@ use crate::longest::pick_kind;
 ghost use mathlib.Core.Path.{_≡_};
 ghost use Prim.Native.Nat.{_≤_};
 ghost use lib.ListN.{length};
+ghost use Rattle.base.specs.Pick.{pick};
+ghost use Rattle.record.specs.Name.{sameName};
 ghost use Rattle.token.specs.Token.{wordKind, wordToken, Spans};
+
+// The reserved word, where the bytes spell it in any case; else the other kind.
+fn word_or(w: &[u8], spelled: &[u8], word: Reserved, other: TokenKind) -> TokenKind
+    ensures { λ r. ⌜ r ≡ pick (sameName (now (w .entry)) (now (spelled .entry))) (TokenKind.Word word) other ⌝ }
+{
+    pick_kind(
+        record::name::same_name(w, spelled),
+        TokenKind::Word(word),
+        other,
+    )
+}
 
 pub fn word_kind(w: &[u8]) -> TokenKind
     ensures { λ r. ⌜ r ≡ wordKind (now (w .entry)) ⌝ }
 {
-    let a = pick_kind(
-        record::name::same_name(w, b"TRUE"),
-        TokenKind::Word(Reserved::True),
-        TokenKind::Name,
-    );
-    let b = pick_kind(
-        record::name::same_name(w, b"OR"),
-        TokenKind::Word(Reserved::Or),
-        a,
-    );
-    let c = pick_kind(
-        record::name::same_name(w, b"NULL"),
-        TokenKind::Word(Reserved::Null),
-        b,
-    );
-    let d = pick_kind(
-        record::name::same_name(w, b"NOT"),
-        TokenKind::Word(Reserved::Not),
-        c,
-    );
-    let e = pick_kind(
-        record::name::same_name(w, b"LIKE"),
-        TokenKind::Word(Reserved::Like),
-        d,
-    );
-    let f = pick_kind(
-        record::name::same_name(w, b"FALSE"),
-        TokenKind::Word(Reserved::False),
-        e,
-    );
-    let g = pick_kind(
-        record::name::same_name(w, b"EVERY"),
-        TokenKind::Word(Reserved::Every),
-        f,
-    );
-    let h = pick_kind(
-        record::name::same_name(w, b"ANY"),
-        TokenKind::Word(Reserved::Any),
-        g,
-    );
-    pick_kind(
-        record::name::same_name(w, b"AND"),
-        TokenKind::Word(Reserved::And),
-        h,
-    )
+    let k = word_or(w, b"TRUE", Reserved::True, TokenKind::Name);
+    let k = word_or(w, b"OR", Reserved::Or, k);
+    let k = word_or(w, b"NULL", Reserved::Null, k);
+    let k = word_or(w, b"NOT", Reserved::Not, k);
+    let k = word_or(w, b"LIKE", Reserved::Like, k);
+    let k = word_or(w, b"FALSE", Reserved::False, k);
+    let k = word_or(w, b"EVERY", Reserved::Every, k);
+    let k = word_or(w, b"ANY", Reserved::Any, k);
+    word_or(w, b"AND", Reserved::And, k)
 }
 
 pub(crate) fn word_token(q: &[u8], s: usize) -> Token
