@@ -77,7 +77,7 @@ pub(crate) fn real_from(q: &[u8], n: bool, s: usize) -> Decoded
 }
 
 // The real at a place, of any number of digits.
-pub fn real_of(q: &[u8], start: usize) -> Decoded
+pub(crate) fn real_of(q: &[u8], start: usize) -> Decoded
     requires { ⌜ start ≤ length (now q) ⌝ }
     ensures { λ r. ⌜ r ≡ realLiteralOf (now (q .entry)) start ⌝ }
 {

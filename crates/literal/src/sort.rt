@@ -6,8 +6,6 @@ use token::Token;
 use token::TokenKind;
 ghost use mathlib.Core.Bool.{true, false};
 ghost use mathlib.Core.Path.{_≡_};
-ghost use Prim.Native.Nat.{_≤_};
-ghost use lib.ListN.{length};
 ghost use Rattle.literal.specs.Sort.{wordSort, formSort, sortOf, unsignedHex};
 
 // Hex digits are an integer, and octets where they have no sign.
@@ -65,7 +63,6 @@ pub fn sort_of(k: TokenKind) -> Sort
 
 // 01: "Unsigned hex is octets against type 8; signed hex there is 21".
 pub fn is_unsigned_hex(q: &[u8], t: Token) -> bool
-    requires { ⌜ t .start ≤ length (now q) ⌝ }
     ensures { λ r. ⌜ r ≡ unsignedHex (now (q .entry)) t ⌝ }
 {
     let kind = t.kind;

@@ -1,5 +1,5 @@
 -- Laws of the number rules.
-use Prim.Native.Nat.{ℕ, _≤_, _<_}
+use Prim.Native.Nat.{ℕ, _-_, _≤_, _<_}
 use mathlib.Core.Path.{_≡_, refl, sym, _∙_}
 use mathlib.Core.List.{List}
 use mathlib.Core.Bool.{Bool, true, false}
@@ -26,10 +26,11 @@ one-of-within {t} {b} q at a c e f g ha hc = byte-within q at (λ z. no (e ∙ z
         clash : {k : ℕ} → 0 < k → 0 ≡ k → ⊥
         clash l w = omega arith
 
-pub moved-bounds : {r : ℕ} (at s e n : ℕ) → r ≡ moved at s e → at ≤ s → s ≤ e → e ≤ n → (at ≤ r) × (r ≤ n)
-moved-bounds at s e n h a b c = rw h (go (ltb s e))
+-- a rule from `at` over `s` to `e`: what stays within `n` at each step does on the whole
+pub moved-bounds : {r : ℕ} (at s e n : ℕ) → r ≡ moved at s e → at ≤ s → s - at ≤ n - at → s ≤ e → e - s ≤ n - s → (at ≤ r) × (r - at ≤ n - at)
+moved-bounds at s e n h a b c d = rw h (go (ltb s e))
   where
-    go : (t : Bool) → (at ≤ pick t e at) × (pick t e at ≤ n)
+    go : (t : Bool) → (at ≤ pick t e at) × (pick t e at - at ≤ n - at)
     go true = (omega arith, omega arith)
     go false = (omega arith, omega arith)
 

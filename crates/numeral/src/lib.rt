@@ -1,6 +1,6 @@
 // The number rules of the grammar: where each one ends.
 ghost use mathlib.Core.Path.{_≡_};
-ghost use Prim.Native.Nat.{ℕ, _+_, _≤_, _<_};
+ghost use Prim.Native.Nat.{ℕ, _+_, _-_, _≤_, _<_};
 ghost use lib.ListN.{length};
 ghost use Rattle.numeral.specs.Numeral.{oneOf, moved, signed, unsignedInteger, decimalLiteral, binaryBody, binaryLiteral, hexPairs, hexBody, hexLiteral, exactNumeric, exponentPart, realBody, realLiteral};
 
@@ -19,8 +19,7 @@ fn moved_to(at: usize, start: usize, end: usize) -> usize
 
 // [sign]
 pub fn skip_sign(q: &[u8], at: usize) -> usize
-    requires { ⌜ at ≤ length (now q) ⌝ }
-    ensures { λ r. ⌜ (r ≡ signed (now (q .entry)) at) × (at ≤ r) × (r ≤ length (now (q .entry))) ⌝ }
+    ensures { λ r. ⌜ (r ≡ signed (now (q .entry)) at) × (at ≤ r) × (r - at ≤ length (now (q .entry)) - at) ⌝ }
 {
     if is_one_of(43, 45, base::bytes::byte_at(q, at)) {
         return at + 1;
@@ -30,16 +29,14 @@ pub fn skip_sign(q: &[u8], at: usize) -> usize
 
 // unsigned-integer
 pub fn unsigned_integer(q: &[u8], at: usize) -> usize
-    requires { ⌜ at ≤ length (now q) ⌝ }
-    ensures { λ r. ⌜ (r ≡ unsignedInteger (now (q .entry)) at) × (at ≤ r) × (r ≤ length (now (q .entry))) ⌝ }
+    ensures { λ r. ⌜ (r ≡ unsignedInteger (now (q .entry)) at) × (at ≤ r) × (r - at ≤ length (now (q .entry)) - at) ⌝ }
 {
     scan::run_end(scan::Class::Digit(10), q, at)
 }
 
 // 1*(binary-digit) "B"
 pub fn binary_body(q: &[u8], at: usize) -> usize
-    requires { ⌜ at ≤ length (now q) ⌝ }
-    ensures { λ r. ⌜ (r ≡ binaryBody (now (q .entry)) at) × (at ≤ r) × (r ≤ length (now (q .entry))) ⌝ }
+    ensures { λ r. ⌜ (r ≡ binaryBody (now (q .entry)) at) × (at ≤ r) × (r - at ≤ length (now (q .entry)) - at) ⌝ }
 {
     let e = scan::run_end(scan::Class::Digit(2), q, at);
     if at < e {
@@ -53,8 +50,7 @@ pub fn binary_body(q: &[u8], at: usize) -> usize
 
 // *( hex-digit hex-digit )
 pub fn hex_pairs(q: &[u8], at: usize) -> usize
-    requires { ⌜ at ≤ length (now q) ⌝ }
-    ensures { λ r. ⌜ (r ≡ hexPairs (now (q .entry)) at) × (at ≤ r) × (r ≤ length (now (q .entry))) ⌝ }
+    ensures { λ r. ⌜ (r ≡ hexPairs (now (q .entry)) at) × (at ≤ r) × (r - at ≤ length (now (q .entry)) - at) ⌝ }
 {
     let n = scan::run_end(scan::Class::Digit(16), q, at) - at;
     at + n / 2 * 2
@@ -62,8 +58,7 @@ pub fn hex_pairs(q: &[u8], at: usize) -> usize
 
 // "0X" 1*( hex-digit hex-digit )
 pub fn hex_body(q: &[u8], at: usize) -> usize
-    requires { ⌜ at ≤ length (now q) ⌝ }
-    ensures { λ r. ⌜ (r ≡ hexBody (now (q .entry)) at) × (at ≤ r) × (r ≤ length (now (q .entry))) ⌝ }
+    ensures { λ r. ⌜ (r ≡ hexBody (now (q .entry)) at) × (at ≤ r) × (r - at ≤ length (now (q .entry)) - at) ⌝ }
 {
     if base::bytes::byte_at(q, at) == 48 {
         if is_one_of(88, 120, base::bytes::byte_at(q, at + 1)) {
@@ -77,8 +72,7 @@ pub fn hex_body(q: &[u8], at: usize) -> usize
 
 // exact-numeric
 pub fn exact_numeric(q: &[u8], at: usize) -> usize
-    requires { ⌜ at ≤ length (now q) ⌝ }
-    ensures { λ r. ⌜ (r ≡ exactNumeric (now (q .entry)) at) × (at ≤ r) × (r ≤ length (now (q .entry))) ⌝ }
+    ensures { λ r. ⌜ (r ≡ exactNumeric (now (q .entry)) at) × (at ≤ r) × (r - at ≤ length (now (q .entry)) - at) ⌝ }
 {
     let i = unsigned_integer(q, at);
     if base::bytes::byte_at(q, i) == 46 {
@@ -93,8 +87,7 @@ pub fn exact_numeric(q: &[u8], at: usize) -> usize
 
 // decimal-literal
 pub fn decimal_literal(q: &[u8], at: usize) -> usize
-    requires { ⌜ at ≤ length (now q) ⌝ }
-    ensures { λ r. ⌜ (r ≡ decimalLiteral (now (q .entry)) at) × (at ≤ r) × (r ≤ length (now (q .entry))) ⌝ }
+    ensures { λ r. ⌜ (r ≡ decimalLiteral (now (q .entry)) at) × (at ≤ r) × (r - at ≤ length (now (q .entry)) - at) ⌝ }
 {
     let s = skip_sign(q, at);
     let e = unsigned_integer(q, s);
@@ -103,8 +96,7 @@ pub fn decimal_literal(q: &[u8], at: usize) -> usize
 
 // binary-literal
 pub fn binary_literal(q: &[u8], at: usize) -> usize
-    requires { ⌜ at ≤ length (now q) ⌝ }
-    ensures { λ r. ⌜ (r ≡ binaryLiteral (now (q .entry)) at) × (at ≤ r) × (r ≤ length (now (q .entry))) ⌝ }
+    ensures { λ r. ⌜ (r ≡ binaryLiteral (now (q .entry)) at) × (at ≤ r) × (r - at ≤ length (now (q .entry)) - at) ⌝ }
 {
     let s = skip_sign(q, at);
     let e = binary_body(q, s);
@@ -113,8 +105,7 @@ pub fn binary_literal(q: &[u8], at: usize) -> usize
 
 // hex-literal
 pub fn hex_literal(q: &[u8], at: usize) -> usize
-    requires { ⌜ at ≤ length (now q) ⌝ }
-    ensures { λ r. ⌜ (r ≡ hexLiteral (now (q .entry)) at) × (at ≤ r) × (r ≤ length (now (q .entry))) ⌝ }
+    ensures { λ r. ⌜ (r ≡ hexLiteral (now (q .entry)) at) × (at ≤ r) × (r - at ≤ length (now (q .entry)) - at) ⌝ }
 {
     let s = skip_sign(q, at);
     let e = hex_body(q, s);
@@ -123,8 +114,7 @@ pub fn hex_literal(q: &[u8], at: usize) -> usize
 
 // [ "E" decimal-literal ]
 pub fn exponent_part(q: &[u8], at: usize) -> usize
-    requires { ⌜ at ≤ length (now q) ⌝ }
-    ensures { λ r. ⌜ (r ≡ exponentPart (now (q .entry)) at) × (at ≤ r) × (r ≤ length (now (q .entry))) ⌝ }
+    ensures { λ r. ⌜ (r ≡ exponentPart (now (q .entry)) at) × (at ≤ r) × (r - at ≤ length (now (q .entry)) - at) ⌝ }
 {
     if is_one_of(69, 101, base::bytes::byte_at(q, at)) {
         let e = decimal_literal(q, at + 1);
@@ -135,8 +125,7 @@ pub fn exponent_part(q: &[u8], at: usize) -> usize
 
 // exact-numeric [ "E" decimal-literal ]
 pub fn real_body(q: &[u8], at: usize) -> usize
-    requires { ⌜ at ≤ length (now q) ⌝ }
-    ensures { λ r. ⌜ (r ≡ realBody (now (q .entry)) at) × (at ≤ r) × (r ≤ length (now (q .entry))) ⌝ }
+    ensures { λ r. ⌜ (r ≡ realBody (now (q .entry)) at) × (at ≤ r) × (r - at ≤ length (now (q .entry)) - at) ⌝ }
 {
     let e = exact_numeric(q, at);
     if at < e {
@@ -147,8 +136,7 @@ pub fn real_body(q: &[u8], at: usize) -> usize
 
 // real-literal
 pub fn real_literal(q: &[u8], at: usize) -> usize
-    requires { ⌜ at ≤ length (now q) ⌝ }
-    ensures { λ r. ⌜ (r ≡ realLiteral (now (q .entry)) at) × (at ≤ r) × (r ≤ length (now (q .entry))) ⌝ }
+    ensures { λ r. ⌜ (r ≡ realLiteral (now (q .entry)) at) × (at ≤ r) × (r - at ≤ length (now (q .entry)) - at) ⌝ }
 {
     let s = skip_sign(q, at);
     let e = real_body(q, s);

@@ -15,7 +15,7 @@ moved-to-requires c κs = search needs
 
 returns : tie.Need-returns
 unfolding decimalLiteral
-returns c = let m = moved-bounds _ _ _ _ (c .moved-to .ensures) (c .before .before .skip-sign .ensures .1) (c .before .unsigned-integer .ensures .1) (c .before .unsigned-integer .ensures .2) in (simp (c .moved-to .ensures, c .before .unsigned-integer .ensures .0, c .before .before .skip-sign .ensures .0), m .0, m .1)
+returns c = let m = moved-bounds _ _ _ _ (c .moved-to .ensures) (c .before .before .skip-sign .ensures .1) (c .before .before .skip-sign .ensures .2) (c .before .unsigned-integer .ensures .1) (c .before .unsigned-integer .ensures .2) in (simp (c .moved-to .ensures, c .before .unsigned-integer .ensures .0, c .before .before .skip-sign .ensures .0), m .0, m .1)
 
 pub decimal-literal-spec : {M : Type 1} → statement M
 decimal-literal-spec =

@@ -12,20 +12,20 @@ is-one-of-requires : tie.Need-is-one-of-requires
 is-one-of-requires c κs = search needs
 
 add-decimal-literal : tie.Need-add-decimal-literal
-add-decimal-literal c = search needs
+add-decimal-literal c = search (needs, one-of-within (c .before .before .before .before .args .q .now) (c .before .before .before .before .args .at) 69 101 (c .before .before .byte-at .ensures) (c .before .is-one-of .ensures) (c .if1 .taken) (omega arith) (omega arith))
 
 decimal-literal-requires : tie.Need-decimal-literal-requires
-decimal-literal-requires c κs = omega (arith, one-of-within (c .before .before .before .before .args .q .now) (c .before .before .before .before .args .at) 69 101 (c .before .before .byte-at .ensures) (c .before .is-one-of .ensures) (c .if1 .taken) (omega arith) (omega arith))
+decimal-literal-requires c κs = search needs
 
 add-moved-to : tie.Need-add-moved-to
-add-moved-to c = search needs
+add-moved-to c = search (needs, one-of-within (c .before .before .before .before .before .args .q .now) (c .before .before .before .before .before .args .at) 69 101 (c .before .before .before .byte-at .ensures) (c .before .before .is-one-of .ensures) (c .before .if1 .taken) (omega arith) (omega arith))
 
 moved-to-requires : tie.Need-moved-to-requires
 moved-to-requires c κs = search needs
 
 returns : tie.Need-returns
 unfolding exponentPart
-returns c = let m = moved-bounds _ _ _ _ (c .moved-to .ensures) (omega arith) (c .before .decimal-literal .ensures .1) (c .before .decimal-literal .ensures .2) in (simp (← c .before .before .before .before .byte-at .ensures, ← c .before .before .before .is-one-of .ensures, c .before .before .if1 .taken, ← c .before .decimal-literal .ensures .0, c .moved-to .ensures), m .0, m .1)
+returns c = let m = moved-bounds _ _ _ _ (c .moved-to .ensures) (omega arith) (omega (arith, one-of-within (c .before .before .before .before .before .before .args .q .now) (c .before .before .before .before .before .before .args .at) 69 101 (c .before .before .before .before .byte-at .ensures) (c .before .before .before .is-one-of .ensures) (c .before .before .if1 .taken) (omega arith) (omega arith))) (c .before .decimal-literal .ensures .1) (c .before .decimal-literal .ensures .2) in (simp (← c .before .before .before .before .byte-at .ensures, ← c .before .before .before .is-one-of .ensures, c .before .before .if1 .taken, ← c .before .decimal-literal .ensures .0, c .moved-to .ensures), m .0, m .1)
 
 returns-2 : tie.Need-returns-2
 unfolding exponentPart

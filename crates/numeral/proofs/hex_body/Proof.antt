@@ -1,7 +1,7 @@
 use Prim.Native.Nat.{_+_}
 use borrow.Author.Tests.{eq-eqb, ne-eqb}
 use native.Mathlib.Omega.{arith}
-use Rattle.numeral.proofs.Laws.{one-of-within, moved-bounds}
+use Rattle.numeral.proofs.Laws.{at-byte, one-of-within, moved-bounds}
 use Rattle.numeral.specs.Numeral.{hexBody}
 use borrow.Author.Needs.{needs}
 use Rattle.numeral.proofs.hex_body.Statement.{statement}
@@ -11,7 +11,7 @@ byte-at-requires : tie.Need-byte-at-requires
 byte-at-requires c κs = search needs
 
 add-byte-at : tie.Need-add-byte-at
-add-byte-at c = search needs
+add-byte-at c = search (needs, at-byte (c .before .before .before .args .q .now) (c .before .before .before .args .at) 48 (c .before .byte-at .ensures) (c .if1 .taken) (omega arith))
 
 byte-at-requires-2 : tie.Need-byte-at-requires-2
 byte-at-requires-2 c κs = search needs
@@ -20,20 +20,20 @@ is-one-of-requires : tie.Need-is-one-of-requires
 is-one-of-requires c κs = search needs
 
 add-hex-pairs : tie.Need-add-hex-pairs
-add-hex-pairs c = search needs
+add-hex-pairs c = search (needs, one-of-within (c .before .before .before .before .before .before .args .q .now) (_+_ (c .before .before .before .before .before .before .args .at) 1) 88 120 (c .before .before .byte-at2 .ensures) (c .before .is-one-of .ensures) (c .if2 .taken) (omega arith) (omega arith))
 
 hex-pairs-requires : tie.Need-hex-pairs-requires
-hex-pairs-requires c κs = omega (arith, one-of-within (c .before .before .before .before .before .before .args .q .now) (_+_ (c .before .before .before .before .before .before .args .at) 1) 88 120 (c .before .before .byte-at2 .ensures) (c .before .is-one-of .ensures) (c .if2 .taken) (omega arith) (omega arith))
+hex-pairs-requires c κs = search needs
 
 add-moved-to : tie.Need-add-moved-to
-add-moved-to c = search needs
+add-moved-to c = search (needs, one-of-within (c .before .before .before .before .before .before .before .args .q .now) (_+_ (c .before .before .before .before .before .before .before .args .at) 1) 88 120 (c .before .before .before .byte-at2 .ensures) (c .before .before .is-one-of .ensures) (c .before .if2 .taken) (omega arith) (omega arith))
 
 moved-to-requires : tie.Need-moved-to-requires
 moved-to-requires c κs = search needs
 
 returns : tie.Need-returns
 unfolding hexBody
-returns c = let m = moved-bounds _ _ _ _ (c .moved-to .ensures) (omega arith) (c .before .hex-pairs .ensures .1) (c .before .hex-pairs .ensures .2) in (simp (← c .before .before .before .before .before .before .byte-at .ensures, eq-eqb _ _ (c .before .before .before .before .before .if1 .taken), ← c .before .before .before .before .byte-at2 .ensures, ← c .before .before .before .is-one-of .ensures, c .before .before .if2 .taken, ← c .before .hex-pairs .ensures .0, c .moved-to .ensures), m .0, m .1)
+returns c = let m = moved-bounds _ _ _ _ (c .moved-to .ensures) (omega arith) (omega (arith, one-of-within (c .before .before .before .before .before .before .before .before .args .q .now) (_+_ (c .before .before .before .before .before .before .before .before .args .at) 1) 88 120 (c .before .before .before .before .byte-at2 .ensures) (c .before .before .before .is-one-of .ensures) (c .before .before .if2 .taken) (omega arith) (omega arith))) (c .before .hex-pairs .ensures .1) (c .before .hex-pairs .ensures .2) in (simp (← c .before .before .before .before .before .before .byte-at .ensures, eq-eqb _ _ (c .before .before .before .before .before .if1 .taken), ← c .before .before .before .before .byte-at2 .ensures, ← c .before .before .before .is-one-of .ensures, c .before .before .if2 .taken, ← c .before .hex-pairs .ensures .0, c .moved-to .ensures), m .0, m .1)
 
 returns-2 : tie.Need-returns-2
 unfolding hexBody

@@ -12,7 +12,7 @@ is-one-of-requires : tie.Need-is-one-of-requires
 is-one-of-requires c κs = search needs
 
 add-result : tie.Need-add-result
-add-result c = search needs
+add-result c = search (needs, one-of-within (c .before .before .before .before .args .q .now) (c .before .before .before .before .args .at) 43 45 (c .before .before .byte-at .ensures) (c .before .is-one-of .ensures) (c .if1 .taken) (omega arith) (omega arith))
 
 returns : tie.Need-returns
 unfolding signed

@@ -46,10 +46,10 @@ returns c =
     let n = length (c .before .before .before .before .before .before .before .before .before .before .before .before .args .q .now) in
     let s = c .before .before .before .before .before .before .before .before .before .before .before .before .args .s in (
       simp (c .longer-of3 .ensures, c .before .longer-of2 .ensures, c .before .before .longer-of .ensures, c .before .before .before .before .before .before .before .before .before .fit .ensures, c .before .before .before .before .before .before .before .fit2 .ensures, c .before .before .before .before .before .fit3 .ensures, c .before .before .before .fit4 .ensures, c .before .before .before .before .before .before .before .before .before .before .decimal-literal .ensures .0, c .before .before .before .before .before .before .before .before .binary-literal .ensures .0, c .before .before .before .before .before .before .hex-literal .ensures .0, c .before .before .before .before .real-literal .ensures .0),
-      long-spans n s (c .longer-of3 .ensures) (fit-spans n s _ _ (c .before .before .before .before .before .before .before .before .before .fit .ensures) refl (c .before .before .before .before .before .before .before .before .before .before .decimal-literal .ensures .1) (c .before .before .before .before .before .before .before .before .before .before .decimal-literal .ensures .2))
-          (long-spans n s (c .before .longer-of2 .ensures) (fit-spans n s _ _ (c .before .before .before .before .before .before .before .fit2 .ensures) refl (c .before .before .before .before .before .before .before .before .binary-literal .ensures .1) (c .before .before .before .before .before .before .before .before .binary-literal .ensures .2))
-          (long-spans n s (c .before .before .longer-of .ensures) (fit-spans n s _ _ (c .before .before .before .before .before .fit3 .ensures) refl (c .before .before .before .before .before .before .hex-literal .ensures .1) (c .before .before .before .before .before .before .hex-literal .ensures .2))
-          (fit-spans n s _ _ (c .before .before .before .fit4 .ensures) refl (c .before .before .before .before .real-literal .ensures .1) (c .before .before .before .before .real-literal .ensures .2)))),
+      long-spans n s (c .longer-of3 .ensures) (fit-spans n s _ _ (c .before .before .before .before .before .before .before .before .before .fit .ensures) refl (c .before .before .before .before .before .before .before .before .before .before .decimal-literal .ensures .1) (omega (arith, c .before .before .before .before .before .before .before .before .before .before .before .before .pre, c .before .before .before .before .before .before .before .before .before .before .decimal-literal .ensures .1, c .before .before .before .before .before .before .before .before .before .before .decimal-literal .ensures .2)))
+          (long-spans n s (c .before .longer-of2 .ensures) (fit-spans n s _ _ (c .before .before .before .before .before .before .before .fit2 .ensures) refl (c .before .before .before .before .before .before .before .before .binary-literal .ensures .1) (omega (arith, c .before .before .before .before .before .before .before .before .before .before .before .before .pre, c .before .before .before .before .before .before .before .before .binary-literal .ensures .1, c .before .before .before .before .before .before .before .before .binary-literal .ensures .2)))
+          (long-spans n s (c .before .before .longer-of .ensures) (fit-spans n s _ _ (c .before .before .before .before .before .fit3 .ensures) refl (c .before .before .before .before .before .before .hex-literal .ensures .1) (omega (arith, c .before .before .before .before .before .before .before .before .before .before .before .before .pre, c .before .before .before .before .before .before .hex-literal .ensures .1, c .before .before .before .before .before .before .hex-literal .ensures .2)))
+          (fit-spans n s _ _ (c .before .before .before .fit4 .ensures) refl (c .before .before .before .before .real-literal .ensures .1) (omega (arith, c .before .before .before .before .before .before .before .before .before .before .before .before .pre, c .before .before .before .before .real-literal .ensures .1, c .before .before .before .before .real-literal .ensures .2))))),
     )
 
 pub number-token-spec : {M : Type 1} → statement M
