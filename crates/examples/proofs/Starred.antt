@@ -26,7 +26,7 @@ use Rattle.pattern.specs.Character as pattern-character
 use Rattle.pattern.specs.Fragment as pattern-fragment
 use Rattle.pattern.specs.Reading as pattern-reading
 use Rattle.pattern.specs.Regex as pattern-regex
-use Rattle.pattern.specs.Run as pattern-run
+use Rattle.matcher.specs.Run as pattern-run
 use Rattle.table.specs.Properties as table-properties
 use Rattle.table.specs.Table as table-table
 use Rattle.instance.specs.Body as instance-body

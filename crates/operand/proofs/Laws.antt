@@ -40,8 +40,8 @@ use Rattle.string_literal.specs.declared.Filled.the-variants.{Count, TooMany}
 use Rattle.unicode.specs.Characters.{characters}
 use Rattle.pattern.specs.Reading.{parse, isSome, wellFormed, alternatives, sequence, item, symbolItem, symbol, ends}
 use Rattle.pattern.specs.Character.{startsWith, special}
-use Rattle.pattern.specs.Matcher.{likeOf, matchOf}
-use Rattle.pattern.specs.declared.matcher.Matched.{Matched}
+use Rattle.matcher.specs.Matcher.{likeOf, matchOf}
+use Rattle.matcher.specs.declared.matcher.Matched.{Matched}
 use Rattle.value.specs.Item.{listed, itemValue}
 use Rattle.value.specs.declared.item.Sort as unit
 use Rattle.value.specs.declared.item.Sequence.{Sequence}

@@ -5,8 +5,8 @@ use mathlib.Core.Option.{Option}
 use lib.ListN.{length}
 use Rattle.pattern.specs.Regex.{Regex}
 use Rattle.pattern.specs.Reading.{parse}
-use Rattle.pattern.specs.Matcher.{likeOf}
-use Rattle.pattern.specs.declared.matcher.Matched.{Matched}
+use Rattle.matcher.specs.Matcher.{likeOf}
+use Rattle.matcher.specs.declared.matcher.Matched.{Matched}
 use Rattle.token.specs.declared.Token.{Token}
 use Rattle.value_literal.specs.LiteralValue.{textOf}
 

@@ -1,7 +1,7 @@
 // The pattern of a string literal.
-use pattern::matcher::Matched;
-use pattern::matcher::match_one;
-use pattern::matcher::match_text;
+use matcher::matcher::Matched;
+use matcher::matcher::match_one;
+use matcher::matcher::match_text;
 use pattern::reader::check_pattern;
 use string_literal::Filled;
 use string_literal::fill;

@@ -1,17 +1,16 @@
 -- What the grammar derives is read, at every bound on the depth of the calls that is large enough. Assumes nothing.
-use mathlib.Core.Path.{_≡_, refl, ap, sym as inv, subst, _∙_}
+use mathlib.Core.Path.{_≡_, refl, ap, sym as inv, subst}
 use mathlib.Core.Bool.{Bool, true, false, _||_, false≢true}
 use mathlib.Core.List.{List, [], _∷_, _++_, append-assoc}
-use Prim.Native.Nat.{ℕ, zero, suc, _+_, _*_, _≤_, _<_}
+use Prim.Native.Nat.{ℕ, zero, suc, _+_, _*_, _≤_}
 use native.Mathlib.Omega.{arith}
-use borrow.Author.Tests.{eqb-true, eq-eqb, ne-eqb, lt-ltb, le-ltb}
-use lib.ListN.{length, drop, length-append}
-use lib.Dec.{ltb, leb, eqb}
-use Rattle.base.specs.Pick.{pick}
-use Rattle.pattern.specs.Regex.{Range, Symbol, any, one, set, Regex, empty, sym, seq, alt, opt, plus, star}
+use borrow.Author.Tests.{eqb-true, ne-eqb, lt-ltb, le-ltb}
+use lib.ListN.{length, length-append}
+use lib.Dec.{eqb}
+use Rattle.pattern.specs.Regex.{Range, Symbol, Regex, seq}
 use Rattle.pattern.specs.Character.{dot, backslash, openGroup, closeGroup, openSet, closeSet, bar, asterisk, plusSign, questionMark, circumflex, hyphen, special, startsWith}
-use Rattle.pattern.specs.Grammar.{MemberText, plain-member, escaped-member, RangeText, single, pair, MembersText, one-range, more-ranges, SymbolText, any-character, plain-character, escaped-character, plain-set, negated-set, Sign, no-sign, star-sign, plus-sign, optional-sign, Kind, Alternatives, Sequence, Item, Derives, one-alternative, more-alternatives, no-item, more-items, symbol-item, group-item}
-use Rattle.pattern.specs.Reading.{Reading, malformed, front, escaped, member, upTo, rangeFrom, range, addRange, members, membersOf, asSet, setFrom, asCharacter, symbol, Part, part, repeated, symbolItemOf, symbolItem, groupOf, ends, alternativeTo, after, alternatives, sequence, item}
+use Rattle.pattern.specs.Grammar.{MemberText, plain-member, escaped-member, RangeText, single, pair, MembersText, one-range, more-ranges, SymbolText, any-character, plain-character, escaped-character, plain-set, negated-set, Sign, no-sign, star-sign, plus-sign, optional-sign, Alternatives, Sequence, Item, Derives, one-alternative, more-alternatives, no-item, more-items, symbol-item, group-item}
+use Rattle.pattern.specs.Reading.{Reading, front, escaped, member, range, members, setFrom, symbol, Part, part, repeated, symbolItem, ends, alternatives, sequence, item}
 use Rattle.pattern.proofs.Sets.{Leaves, left-less, range-leaves}
 use Rattle.pattern.proofs.Leaves.{item-leaves}
 

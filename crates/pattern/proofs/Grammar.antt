@@ -11,10 +11,10 @@ use lib.ListN.{length}
 use lib.Dec.{leb}
 use Rattle.base.specs.Pick.{pick}
 use Rattle.pattern.specs.Regex.{Regex}
-use Rattle.pattern.specs.Character.{bar, startsWith}
-use Rattle.pattern.specs.Grammar.{Kind, Alternatives, Derives, DerivesPattern}
+use Rattle.pattern.specs.Character.{startsWith}
+use Rattle.pattern.specs.Grammar.{Alternatives, Derives, DerivesPattern}
 use Rattle.pattern.specs.Reading.{Reading, malformed, front, Part, part, ends, alternatives, wholeOf, enough, parse, isSome, wellFormed}
-use Rattle.pattern.proofs.Sound.{Reads, reads-none, reads, Of, alternatives-sound}
+use Rattle.pattern.proofs.Sound.{Reads, reads, Of, alternatives-sound}
 use Rattle.pattern.proofs.Complete.{alternatives-complete}
 
 module _ (s : List ℕ) where

@@ -1,15 +1,13 @@
 -- How much of a text a part takes: a symbol and an item at least one character, and nothing reads past the end. Assumes nothing.
-use mathlib.Core.Path.{_≡_, refl}
 use mathlib.Core.List.{List, [], _∷_}
-use mathlib.Core.Bool.{Bool, true, false, _||_}
-use Prim.Native.Nat.{ℕ, zero, suc, _≤_, _<_, _+_}
+use mathlib.Core.Bool.{Bool, true, false}
+use Prim.Native.Nat.{ℕ, zero, suc, _<_, _+_}
 use native.Mathlib.Omega.{arith}
 use lib.ListN.{length, drop}
 use lib.Dec.{ltb, eqb}
-use Rattle.base.specs.Pick.{pick}
-use Rattle.pattern.specs.Regex.{Range, Symbol, any, one, Regex, sym}
+use Rattle.pattern.specs.Regex.{Range, Symbol, Regex, sym}
 use Rattle.pattern.specs.Character.{dot, backslash, openSet, closeSet, circumflex, special, bar, openGroup, closeGroup, asterisk, plusSign, questionMark, startsWith}
-use Rattle.pattern.specs.Reading.{Reading, malformed, front, escaped, range, addRange, members, membersOf, asSet, setFrom, asCharacter, symbol, Part, part, repeated, symbolItemOf, symbolItem, groupOf, ends, alternativeTo, after, alternatives, sequence, item}
+use Rattle.pattern.specs.Reading.{Reading, malformed, front, range, addRange, members, asSet, setFrom, asCharacter, symbol, Part, repeated, symbolItemOf, symbolItem, groupOf, ends, alternativeTo, after, alternatives, sequence, item}
 use Rattle.pattern.proofs.Sets.{Leaves, leaves-none, leaves, leaves-more, leaves-pick, drop-less, escaped-leaves, range-leaves}
 
 -- ---- symbols

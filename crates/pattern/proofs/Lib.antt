@@ -1,15 +1,8 @@
-pub mod Decides
-pub mod Fragments
-pub mod Numbering
-pub mod Runs
-pub mod Memory
 pub mod Offsets
 pub mod Sets
 pub mod Symbols
 pub mod Leaves
 pub mod Parts
-pub mod Texts
 pub mod Sound
 pub mod Complete
 pub mod Grammar
-pub mod Examples

@@ -1,14 +1,12 @@
 -- One law for each way out of the readers of a pattern's parts. Assumes nothing.
 use mathlib.Core.Path.{_≡_, refl, ap, ap₂, subst, sym as inv, _∙_}
-use mathlib.Core.List.{List, [], _∷_}
+use mathlib.Core.List.{List}
 use mathlib.Core.Bool.{Bool, true, false, not}
 use mathlib.Core.Option.{Option, none, some}
 use Prim.Native.Nat.{ℕ, zero, suc, _≤_, _<_, _+_, _*_, _-_}
 use native.Mathlib.Omega.{arith}
 use borrow.Author.Tests.{lt-ltb, le-ltb, le-leb, lt-leb, not-true, not-false}
-use lib.ListN.{length, getD, drop, length-drop, drop-of-length-le}
-use lib.Dec.{ltb, leb}
-use Rattle.base.specs.Pick.{pick}
+use lib.ListN.{length, drop, length-drop, drop-of-length-le}
 use Rattle.base.proofs.Lists.{left-next}
 use Rattle.pattern.specs.declared.fragment.Fragment.{Fragment}
 use Rattle.pattern.specs.declared.symbol.SymbolRead.{SymbolRead}
@@ -19,10 +17,9 @@ use Rattle.pattern.specs.declared.reader.PatternRead.{PatternRead}
 use Rattle.pattern.specs.declared.reader.PatternRead.the-variants.{BadPattern, Pattern}
 use Rattle.pattern.specs.Regex.{Symbol, standsFor, Regex, empty, sym, seq, alt, opt, plus, star}
 use Rattle.pattern.specs.Character.{bar, openGroup, closeGroup, asterisk, plusSign, questionMark, startsWith}
-use Rattle.pattern.specs.Reading.{Reading, malformed, front, symbol, Part, part, repeated, symbolItemOf, symbolItem, groupOf, ends, alternativeTo, after, alternatives, sequence, item, wholeOf, enough, parse, isSome, wellFormed}
+use Rattle.pattern.specs.Reading.{Reading, malformed, front, symbol, Part, part, repeated, symbolItem, ends, alternatives, sequence, item, enough, parse}
 use Rattle.pattern.specs.Fragment.{fragmentOf, emptyFragment, symbolFragment, sequenceFragment, alternativesFragment, optionalFragment, repeatedFragment}
-use Rattle.pattern.specs.Answers.{Gives, bad, good, GivesSymbol, GivesPart, ReadsRepeat, ReadsAlternatives, ReadsSequence, ReadsItem}
-use Rattle.pattern.specs.Matcher.{patternAt}
+use Rattle.pattern.specs.Answers.{bad, good, GivesSymbol, GivesPart, ReadsRepeat, ReadsAlternatives, ReadsSequence, ReadsItem, patternAt}
 use Rattle.pattern.proofs.Offsets.{drop-next}
 use Rattle.pattern.proofs.Sets.{Leaves, left-less}
 use Rattle.pattern.proofs.Leaves.{sequence-leaves, item-leaves}

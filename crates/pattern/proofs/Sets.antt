@@ -1,5 +1,5 @@
 -- One law for each way out of the readers of a set's members. Assumes nothing.
-use mathlib.Core.Path.{_≡_, refl, ap, subst, sym as inv, _∙_}
+use mathlib.Core.Path.{_≡_, refl, subst}
 use mathlib.Core.List.{List, [], _∷_}
 use mathlib.Core.Bool.{Bool, true, false, not, _||_, _&&_}
 use Prim.Native.Nat.{ℕ, zero, suc, _≤_, _<_, _+_, _-_}
@@ -19,7 +19,7 @@ use Rattle.pattern.specs.declared.symbol.SymbolRead.the-variants.{BadSym
 use Rattle.pattern.specs.Regex.{Range, inRanges}
 use Rattle.pattern.specs.Character.{backslash, hyphen, closeSet, startsWith}
 use Rattle.pattern.specs.Reading.{Reading, malformed, front, escaped, member, upTo, rangeFrom, range, addRange, members}
-use Rattle.pattern.specs.Answers.{Gives, bad, good, GivesMember, GivesRange, GivesMembers, ReadsMembers}
+use Rattle.pattern.specs.Answers.{bad, good, GivesMember, GivesRange, GivesMembers, ReadsMembers}
 use Rattle.pattern.proofs.Offsets.{drop-next}
 
 -- ---- what an answer tells of the reading

@@ -1,14 +1,13 @@
 -- What is read is derived by the grammar. Assumes nothing.
 use mathlib.Core.Path.{_≡_, refl, ap, sym as inv, subst, _∙_}
 use mathlib.Core.Bool.{Bool, true, false, _||_, false≢true}
-use mathlib.Core.List.{List, [], _∷_, _++_, append-assoc, append-nil}
-use Prim.Native.Nat.{ℕ, zero, suc, _+_, _≤_, _<_}
-use native.Mathlib.Omega.{arith}
-use borrow.Author.Tests.{eqb-true, eqb-false, ltb-true, ltb-false, eq-eqb}
+use mathlib.Core.List.{List, [], _∷_, _++_, append-assoc}
+use Prim.Native.Nat.{ℕ, zero, suc, _+_, _<_}
+use borrow.Author.Tests.{eqb-true, eqb-false, ltb-true, ltb-false}
 use lib.ListN.{length, drop}
-use lib.Dec.{ltb, leb, eqb}
+use lib.Dec.{ltb, eqb}
 use Rattle.base.specs.Pick.{pick}
-use Rattle.pattern.specs.Regex.{Range, Symbol, any, one, set, Regex, empty, sym, seq, alt, opt, plus, star}
+use Rattle.pattern.specs.Regex.{Range, Symbol, any, one, Regex, sym, opt, plus, star}
 use Rattle.pattern.specs.Character.{dot, backslash, openGroup, closeGroup, openSet, closeSet, bar, asterisk, plusSign, questionMark, circumflex, hyphen, special, startsWith}
 use Rattle.pattern.specs.Grammar.{MemberText, plain-member, escaped-member, RangeText, single, pair, MembersText, one-range, more-ranges, SymbolText, any-character, plain-character, escaped-character, plain-set, negated-set, Sign, no-sign, star-sign, plus-sign, optional-sign, Kind, Alternatives, Sequence, Item, Derives, one-alternative, more-alternatives, no-item, more-items, symbol-item, group-item}
 use Rattle.pattern.specs.Reading.{Reading, malformed, front, escaped, member, upTo, rangeFrom, range, addRange, members, membersOf, asSet, setFrom, asCharacter, symbol, Part, part, repeated, symbolItemOf, symbolItem, groupOf, ends, alternativeTo, after, alternatives, sequence, item}

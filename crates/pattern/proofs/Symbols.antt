@@ -1,7 +1,7 @@
 -- One law for each way out of the readers of symbols. Assumes nothing.
-use mathlib.Core.Path.{_≡_, refl, sym as inv}
+use mathlib.Core.Path.{_≡_}
 use mathlib.Core.List.{List}
-use mathlib.Core.Bool.{Bool, true, false, not}
+use mathlib.Core.Bool.{Bool, true, false}
 use Prim.Native.Nat.{ℕ, suc, _≤_, _<_, _+_, _-_}
 use native.Mathlib.Omega.{arith}
 use borrow.Author.Tests.{eq-eqb, ne-eqb}
@@ -12,10 +12,10 @@ use Rattle.pattern.specs.declared.set.MemberRead.{MemberRead}
 use Rattle.pattern.specs.declared.set.MemberRead.the-variants.{BadMember, MemberTo}
 use Rattle.pattern.specs.declared.symbol.SymbolRead.{SymbolRead}
 use Rattle.pattern.specs.declared.symbol.SymbolRead.the-variants.{BadSymbol, SymbolTo}
-use Rattle.pattern.specs.Regex.{Range, Symbol, inRanges, standsFor}
+use Rattle.pattern.specs.Regex.{Range, standsFor}
 use Rattle.pattern.specs.Character.{dot, backslash, openSet, circumflex, special, startsWith}
-use Rattle.pattern.specs.Reading.{Reading, malformed, front, escaped, members, membersOf, asSet, setFrom, symbol}
-use Rattle.pattern.specs.Answers.{Gives, bad, good, GivesMember, GivesMembers, GivesSymbol, ReadsMembers, negated}
+use Rattle.pattern.specs.Reading.{Reading, malformed, front, escaped, membersOf, asSet, setFrom, symbol}
+use Rattle.pattern.specs.Answers.{bad, good, GivesMember, GivesMembers, GivesSymbol, ReadsMembers, negated}
 use Rattle.pattern.proofs.Offsets.{drop-next}
 use Rattle.pattern.proofs.Sets.{member-bad, member-good}
 

@@ -1,6 +1,7 @@
 -- What the readers' answers say: they are what the definitions of specs/Reading read, and the characters after it start at the offset given.
 use mathlib.Core.Bool.{Bool, not, _||_}
 use mathlib.Core.List.{List}
+use mathlib.Core.Option.{Option, none, some}
 use mathlib.Core.Path.{_≡_}
 use Prim.Native.Nat.{ℕ, _+_, _*_, _-_, _≤_, _<_}
 use lib.ListN.{length, drop}
@@ -13,6 +14,8 @@ use Rattle.pattern.specs.declared.symbol.SymbolRead.{SymbolRead}
 use Rattle.pattern.specs.declared.symbol.SymbolRead.the-variants.{BadSymbol, SymbolTo}
 use Rattle.pattern.specs.declared.reader.PartRead.{PartRead}
 use Rattle.pattern.specs.declared.reader.PartRead.the-variants.{BadPart, PartTo}
+use Rattle.pattern.specs.declared.reader.PatternRead.{PatternRead}
+use Rattle.pattern.specs.declared.reader.PatternRead.the-variants.{BadPattern, Pattern}
 use Rattle.pattern.specs.Regex.{Range, Symbol, inRanges, standsFor, Regex}
 use Rattle.pattern.specs.Reading.{Reading, malformed, front, Part, members, alternatives, sequence, item, repeated}
 use Rattle.pattern.specs.Fragment.{fragmentOf}
@@ -56,6 +59,11 @@ ReadsItem s at d k live c r = (f : ℕ) → 3 * (length s - at) + 1 ≤ f → Gi
 -- the sign after a part is taken with it, whatever the part is
 abbrev pub ReadsRepeat : List ℕ → ℕ → ℕ → Fragment → PartRead → Type 0
 ReadsRepeat s at k g r = (a : Regex ℕ) (live c : ℕ) → g ≡ fragmentOf a live c → GivesPart s live c r (repeated a k (drop at s))
+
+-- what the whole pattern does with the live symbols at the character c
+abbrev pub patternAt : Option (Regex ℕ) → ℕ → ℕ → PatternRead
+patternAt none live c = BadPattern
+patternAt (some r) live c = Pattern (fragmentOf r live c)
 
 abbrev pub negated : SymbolRead → SymbolRead
 negated BadSymbol = BadSymbol

@@ -1,6 +1,6 @@
 -- The grammar of patterns (01, "Pattern"), as derivations of a text. proofs/Grammar shows that `parse` reads exactly what it derives.
 use mathlib.Core.Path.{_≡_}
-use mathlib.Core.Bool.{Bool, true, false}
+use mathlib.Core.Bool.{true, false}
 use mathlib.Core.List.{List, [], _∷_, _++_}
 use Prim.Native.Nat.{ℕ, _+_, _≤_, _<_}
 use lib.ListN.{length}

@@ -1,10 +1,6 @@
 pub mod Regex
-pub mod Run
 pub mod Character
 pub mod Grammar
 pub mod Reading
 pub mod Fragment
 pub mod Answers
-pub mod Matcher
-pub mod Remembered
-pub mod Examples

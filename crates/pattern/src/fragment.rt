@@ -10,7 +10,7 @@ pub struct Fragment {
     pub follow: u64, // those that may follow a live one and stand for it
 }
 
-pub(crate) fn keep_if(b: bool, set: u64) -> u64
+pub fn keep_if(b: bool, set: u64) -> u64
     ensures { λ r. ⌜ r ≡ keptIf b set ⌝ }
 {
     if b { set } else { 0 }

@@ -1,8 +1,6 @@
-// LIKE patterns: the reader of a pattern, and the matcher that moves its live symbols on by one character each step.
+// LIKE patterns: the reader of a pattern, which works out what it does with the live symbols at one character.
 pub mod character;
 pub mod fragment;
-pub mod matcher;
 pub mod reader;
-pub mod remembered;
 pub mod set;
 pub mod symbol;

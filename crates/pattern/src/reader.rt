@@ -3,8 +3,7 @@
 ghost use mathlib.Core.Path.{_≡_};
 ghost use lib.ListN.{drop};
 ghost use Rattle.pattern.specs.Reading.{parse, symbolItem, ends, wellFormed};
-ghost use Rattle.pattern.specs.Answers.{GivesPart, ReadsRepeat, ReadsAlternatives, ReadsSequence, ReadsItem};
-ghost use Rattle.pattern.specs.Matcher.{patternAt};
+ghost use Rattle.pattern.specs.Answers.{GivesPart, ReadsRepeat, ReadsAlternatives, ReadsSequence, ReadsItem, patternAt};
 use crate::character::ASTERISK;
 use crate::character::BAR;
 use crate::character::CLOSE_GROUP;
@@ -133,7 +132,7 @@ fn read_item(s: &[u32], at: usize, depth: usize, k: usize, live: u64, c: u32) ->
 }
 
 // The whole pattern, at a set of live symbols and one character.
-pub(crate) fn read_pattern(p: &[u32], live: u64, c: u32) -> PatternRead
+pub fn read_pattern(p: &[u32], live: u64, c: u32) -> PatternRead
     ensures { λ r. ⌜ r ≡ patternAt (parse (now (p .entry))) live c ⌝ }
 {
     if MOST_CHARACTERS < p.len() {

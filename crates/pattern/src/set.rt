@@ -1,5 +1,5 @@
 // The members of a set.
-ghost use mathlib.Core.Bool.{Bool, false};
+ghost use mathlib.Core.Bool.{false};
 ghost use lib.ListN.{drop};
 ghost use Rattle.pattern.specs.Reading.{escaped, member, range};
 ghost use Rattle.pattern.specs.Answers.{GivesMember, GivesRange, ReadsMembers};

@@ -16,7 +16,7 @@ use Rattle.record.specs.declared.kind.Family.the-variants as family
 use Rattle.record.specs.declared.kind.ValueType.{ValueType}
 use Rattle.unicode.specs.Characters.{characters}
 use Rattle.unicode.proofs.Characters.{characters-fewer}
-use Rattle.pattern.specs.declared.matcher.Matched.{Matched}
+use Rattle.matcher.specs.declared.matcher.Matched.{Matched}
 use Rattle.token.specs.declared.Token.{Token}
 use Rattle.instance.specs.Value.{familyValue, scalarIn}
 use Rattle.value.specs.Read.{valueInRecord}

@@ -11,7 +11,7 @@ use Rattle.base.specs.Order.{holds}
 use Rattle.base.specs.declared.order.Operator.{Operator}
 use Rattle.base.specs.declared.order.Operator.the-variants.{Equal}
 use Rattle.pattern.specs.Regex.{Regex}
-use Rattle.pattern.specs.Run.{likes}
+use Rattle.matcher.specs.Run.{likes}
 use Rattle.instance.specs.Value.{ScalarValue}
 use Rattle.value.specs.Compare.{equality, compares}
 

@@ -1,4 +1,3 @@
-use borrow.Author.Needs.{needs}
 use Rattle.pattern.specs.Character.{special}
 use mathlib.Core.Path.{refl}
 use Rattle.pattern.proofs.character.is_special.Statement.{statement}

@@ -1,5 +1,4 @@
 use Rattle.pattern.proofs.Parts as law
-use native.Mathlib.Omega.{arith}
 use borrow.Author.Needs.{needs}
 use Rattle.pattern.proofs.reader.read_symbol_item.Statement.{statement}
 use Rattle.pattern.proofs.reader.read_symbol_item.Tie as tie

@@ -1,0 +1,4 @@
+pub mod Run
+pub mod Matcher
+pub mod Remembered
+pub mod Examples

@@ -1,0 +1,3 @@
+// The matcher of LIKE: it moves a pattern's live symbols on by one character each step.
+pub mod matcher;
+pub mod remembered;
