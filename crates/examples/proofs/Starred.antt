@@ -62,7 +62,10 @@ use Rattle.operand.specs.Index as operand-index
 use Rattle.operand.specs.LiteralReading as operand-literal-reading
 use Rattle.operand.specs.Named as operand-named
 use Rattle.operand.specs.PatternLiteral as operand-pattern-literal
-use Rattle.predicate.specs.Place as predicate-place
+use Rattle.place.specs.Place as place-place
+use Rattle.search.specs.Search as search-search
+use Rattle.arrays.specs.Arrays as arrays-arrays
+use Rattle.like.specs.Like as like-like
 use Rattle.predicate.specs.Test as predicate-test
 use Rattle.judge.specs.Environment as judge-environment
 use Rattle.judge.specs.Meaning as judge-meaning
@@ -144,8 +147,11 @@ unfolding
     operand-literal-reading.fits operand-literal-reading.noDatetime operand-literal-reading.readLiteral operand-literal-reading.isNullLiteral
     operand-named.named
     operand-pattern-literal.patternOf
-    predicate-place.bodyAt predicate-place.bodyValue predicate-place.valueRead predicate-place.literalValues predicate-place.asText
-    predicate-test.sameElements predicate-test.sameArrays predicate-test.someHolds predicate-test.allHold predicate-test.searchHolds predicate-test.likeHolds predicate-test.truth predicate-test.pairsSeen predicate-test.arraySteps predicate-test.elementsSeen predicate-test.searchSteps predicate-test.size predicate-test.steps predicate-test.reads
+    place-place.bodyAt place-place.bodyValue place-place.valueRead place-place.literalValues
+    search-search.someHolds search-search.allHold search-search.searchHolds search-search.elementsSeen search-search.searchSteps
+    arrays-arrays.sameElements arrays-arrays.sameArrays arrays-arrays.pairsSeen arrays-arrays.arraySteps
+    like-like.asText like-like.likeHolds like-like.size
+    predicate-test.truth predicate-test.steps predicate-test.reads
     judge-environment.entryNamed
     judge-meaning.asScalar judge-meaning.asArray judge-meaning.elementOf judge-meaning.leftScalar judge-meaning.leftArray judge-meaning.elements judge-meaning.rightScalar judge-meaning.rightArray judge-meaning.rightKind judge-meaning.rightProperty judge-meaning.rightOf judge-meaning.both judge-meaning.ordered judge-meaning.meet judge-meaning.meantBy judge-meaning.meantAs judge-meaning.meaning
     filter-check.first filter-check.demand filter-check.eachToken filter-check.checkRightName filter-check.shapeOf filter-check.leftShape filter-check.rightShape filter-check.beside filter-check.isFitting filter-check.allFit filter-check.rowFits filter-check.orderFits filter-check.checkIndex filter-check.checkLeftIndex filter-check.checkRanges filter-check.checkPattern filter-check.checkDatetimes filter-check.checkKind filter-check.checkComparison filter-check.checkAll filter-check.check

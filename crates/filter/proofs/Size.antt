@@ -35,12 +35,12 @@ use Rattle.operand.specs.Named.{named}
 use Rattle.operand.specs.Index.{indexOf}
 use Rattle.operand.specs.declared.index.IndexRead.{IndexRead}
 use Rattle.operand.specs.declared.index.IndexRead.the-variants.{Reads, TooLarge}
-use Rattle.predicate.specs.declared.place.Source.the-variants as source
-use Rattle.predicate.specs.declared.place.Body.{Body}
-use Rattle.predicate.specs.declared.place.Body.the-variants as body
-use Rattle.predicate.specs.Test as test
-use Rattle.predicate.specs.Test.{Test, values, arrays, search, like, size, reads, steps}
-use Rattle.predicate.specs.Place.{bodyAt, bodyValue, asText}
+use Rattle.place.specs.declared.Source.the-variants as source
+use Rattle.place.specs.declared.Body.{Body}
+use Rattle.place.specs.declared.Body.the-variants as body
+use Rattle.place.specs.Place.{bodyAt, bodyValue}
+use Rattle.like.specs.Like.{asText, size}
+use Rattle.predicate.specs.Test.{Test, values, arrays, search, like, reads}
 use Rattle.predicate.proofs.Bounds.{steps-bounded, body-few, text-few, spot-few}
 use Rattle.judge.specs.Meaning as meaning
 use Rattle.judge.specs.Meaning.{

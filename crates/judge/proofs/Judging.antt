@@ -25,8 +25,8 @@ use Rattle.operand.specs.LiteralReading.{isNullLiteral}
 use Rattle.operand.specs.Element.{elementTokens}
 use Rattle.operand.specs.PatternLiteral.{patternOf}
 use Rattle.predicate.specs.Test as test
-use Rattle.predicate.specs.declared.place.Body.{Body}
-use Rattle.predicate.specs.Place.{bodyAt, bodyValue}
+use Rattle.place.specs.declared.Body.{Body}
+use Rattle.place.specs.Place.{bodyAt, bodyValue}
 use Rattle.judge.specs.declared.Judged.{Judged}
 use Rattle.judge.specs.declared.Judged.the-variants.{Fails}
 use Rattle.judge.specs.declared.left.Left as code-left

@@ -40,13 +40,13 @@ use Rattle.operand.specs.Index.{indexOf}
 use Rattle.operand.specs.LiteralReading.{LiteralReading, misfit, outOfRange, malformed, reads, readLiteral}
 use Rattle.operand.specs.Answers.{readingOf}
 use Rattle.operand.specs.Element.{nextElement, elementsFrom}
-use Rattle.predicate.specs.declared.place.Source.the-variants as source
-use Rattle.predicate.specs.declared.place.Spot.{Spot}
-use Rattle.predicate.specs.declared.place.Located.{Located}
-use Rattle.predicate.specs.declared.place.Body.{Body}
-use Rattle.predicate.specs.declared.place.Body.the-variants as body
+use Rattle.place.specs.declared.Source.the-variants as source
+use Rattle.place.specs.declared.Spot.{Spot}
+use Rattle.place.specs.declared.Located.{Located}
+use Rattle.place.specs.declared.Body.{Body}
+use Rattle.place.specs.declared.Body.the-variants as body
 use Rattle.predicate.specs.Test as test
-use Rattle.predicate.specs.Place.{sourceBytes, spotValue, locatedValue, bodyOf, bodyAt, elementsOf, bodyValue, valueRead, literalValues}
+use Rattle.place.specs.Place.{sourceBytes, spotValue, locatedValue, bodyOf, bodyAt, elementsOf, bodyValue, valueRead, literalValues}
 use Rattle.judge.specs.declared.left.SpotRead.{SpotRead}
 use Rattle.judge.specs.declared.left.SpotRead.the-variants as spot
 use Rattle.judge.specs.declared.left.Left as code-left
@@ -71,8 +71,10 @@ use Rattle.short_circuit.specs.declared.Told.{Told}
 use Rattle.operand.specs.Element.{elementTokens}
 use Rattle.operand.specs.PatternLiteral.{patternOf}
 use Rattle.value.specs.Compare.{compares}
-use Rattle.predicate.specs.Test.{Test, values, arrays, search, truth, steps}
-use Rattle.predicate.specs.Answers.{performed, Likes}
+use Rattle.arrays.specs.Answers.{compared}
+use Rattle.like.specs.Like.{Likes}
+use Rattle.predicate.specs.Test.{Test, values, arrays, search, truth, steps, performed}
+use Rattle.predicate.proofs.Forms.{of-arrays, of-like}
 use Rattle.judge.specs.declared.Judged.{Judged}
 use Rattle.judge.specs.declared.Judged.the-variants.{Fails, Tells}
 use Rattle.judge.specs.declared.meet.Settled.{Settled}
@@ -280,18 +282,18 @@ module _ (op : Operator) (start : ℕ) (xs : test.Array) (f : Family) (q : List 
         go (faulty d o) g k = read-as (faulty d o) g (Fails c p) cc
         go (meaning.value zs) g k = let z : _≡_ {A = ℕ} 0 1 = cc in absurd (omega arith)
 
-    pub list-told : r ≡ list.Good → {x : Told} → x ≡ performed (arrays op xs (some (literalValues f q ts))) → ListMeets (Tells x)
+    pub list-told : r ≡ list.Good → {x : Told} → x ≡ compared op xs (some (literalValues f q ts)) → ListMeets (Tells x)
     unfolding judged both
-    list-told e {x} ex = read-as (meaning.value (literalValues f q ts)) (elements-good f q ts (sym e ∙ er)) (Tells x) (ap Tells ex)
+    list-told e {x} ex = read-as (meaning.value (literalValues f q ts)) (elements-good f q ts (sym e ∙ er)) (Tells x) (ap Tells (of-arrays x op xs (some (literalValues f q ts)) ex))
 
 -- an array of the instance
 module _ (op : Operator) (start : ℕ) (xs ys : test.Array) (same : Bool) {b : Bool} (eb : b ≡ equality op) where
   abbrev BodyMeets : Judged → Type 0
   BodyMeets j = j ≡ judged (both start (equality op) (meaning.value xs) (ofRow same (meaning.value ys)) (arrays op))
 
-  pub bodies-told : b && same ≡ true → {x : Told} → x ≡ performed (arrays op xs ys) → BodyMeets (Tells x)
+  pub bodies-told : b && same ≡ true → {x : Told} → x ≡ compared op xs ys → BodyMeets (Tells x)
   unfolding judged both
-  bodies-told h ex = let k = and-both b same h in rw (← eb, k .0, k .1) (ap Tells ex)
+  bodies-told h {x} ex = let k = and-both b same h in rw (← eb, k .0, k .1) (ap Tells (of-arrays x op xs ys ex))
 
   pub bodies-row : b && same ≡ false → BodyMeets (Fails cause.Row start)
   unfolding judged both
@@ -341,7 +343,7 @@ module _ (n : Bool) (start : ℕ) (of : ValueType) (q i : List ℕ) (x : SpotRea
           go : (r : Option (Regex ℕ)) → patternOf q t ≡ r → isSome r ≡ true
               → Tells y ≡ judged (both start (sameRow (of .family) family.Text) (spotRead of q i x) (patternBy (t .start) r) (likeText n))
           go none f k = let z : _≡_ {A = ℕ} 0 1 = cc in absurd (omega arith)
-          go (some r) f k = rw (textual, e) (ap Tells (ly r f))
+          go (some r) f k = rw (textual, e) (ap Tells (of-like y q t n (spotValue of q i s) ly r f))
 
 -- ---- src/property.rt: a property on the right, by its kind
 -- the value of a scalar property is that of its record, the value of an array that of its body

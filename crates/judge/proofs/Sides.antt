@@ -39,13 +39,13 @@ use Rattle.operand.specs.Index.{indexOf}
 use Rattle.operand.specs.LiteralReading.{LiteralReading, misfit, outOfRange, malformed, reads, readLiteral}
 use Rattle.operand.specs.Answers.{readingOf}
 use Rattle.operand.specs.Element.{nextElement, elementsFrom, firstElement, elementTokens}
-use Rattle.predicate.specs.declared.place.Source.the-variants as source
-use Rattle.predicate.specs.declared.place.Spot.{Spot}
-use Rattle.predicate.specs.declared.place.Located.{Located}
-use Rattle.predicate.specs.declared.place.Body.{Body}
-use Rattle.predicate.specs.declared.place.Body.the-variants as body
+use Rattle.place.specs.declared.Source.the-variants as source
+use Rattle.place.specs.declared.Spot.{Spot}
+use Rattle.place.specs.declared.Located.{Located}
+use Rattle.place.specs.declared.Body.{Body}
+use Rattle.place.specs.declared.Body.the-variants as body
 use Rattle.predicate.specs.Test as test
-use Rattle.predicate.specs.Place.{sourceBytes, spotValue, locatedValue, bodyOf, bodyAt, elementsOf, bodyValue, valueRead, literalValues}
+use Rattle.place.specs.Place.{sourceBytes, spotValue, locatedValue, bodyOf, bodyAt, elementsOf, bodyValue, valueRead, literalValues}
 use Rattle.judge.specs.declared.left.SpotRead.{SpotRead}
 use Rattle.judge.specs.declared.left.SpotRead.the-variants as spot
 use Rattle.judge.specs.declared.left.Left as code-left

@@ -13,10 +13,10 @@ use Rattle.instance.specs.Value.{ScalarValue}
 use Rattle.operand.specs.declared.cause.Cause.{Cause}
 use Rattle.operand.specs.declared.cause.Cause.the-variants as cause
 use Rattle.value.specs.Read.{valueInRecord}
-use Rattle.predicate.specs.declared.place.Spot.{Spot}
-use Rattle.predicate.specs.declared.place.Body.{Body}
-use Rattle.predicate.specs.Answers.{performed}
-use Rattle.predicate.specs.Place.{spotValue, locatedValue, bodyValue}
+use Rattle.place.specs.declared.Spot.{Spot}
+use Rattle.place.specs.declared.Body.{Body}
+use Rattle.place.specs.Place.{spotValue, locatedValue, bodyValue}
+use Rattle.predicate.specs.Test.{performed}
 use Rattle.judge.specs.declared.Judged.{Judged}
 use Rattle.judge.specs.declared.Judged.the-variants.{Fails, Tells}
 use Rattle.judge.specs.declared.left.SpotRead.{SpotRead}

@@ -36,9 +36,9 @@ use Rattle.operand.specs.Index.{indexOf}
 use Rattle.operand.specs.LiteralReading.{LiteralReading, misfit, outOfRange, malformed, reads, readLiteral, isNullLiteral}
 use Rattle.operand.specs.Element.{elementTokens}
 use Rattle.operand.specs.PatternLiteral.{patternOf}
+use Rattle.like.specs.Like.{asText}
 use Rattle.predicate.specs.Test as test
 use Rattle.predicate.specs.Test.{Test, values, arrays, search, like}
-use Rattle.predicate.specs.Place.{asText}
 
 -- what a part of a comparison reads: something of another row, something wrong in itself, or a value
 pub data Read (A : Type 0) : Type 0 where

@@ -16,7 +16,7 @@ use instance::start::start_of;
 use operand::cause::Cause;
 use operand::literal_read::is_null_literal;
 use operand::name::find_named;
-use predicate::place::body_at;
+use place::body_at;
 use record::kind::Kind;
 use record::kind::ValueType;
 use record::kind::kind_of;

@@ -23,29 +23,16 @@ use Rattle.instance.proofs.Formed.{length-elements}
 use Rattle.value.specs.Compare.{compares}
 use Rattle.value.specs.Read.{valueIn, valueInRecord}
 use Rattle.base.specs.declared.order.Operator.the-variants.{Equal}
-use Rattle.predicate.specs.Test.{
-  Array,
-  Test,
-  values,
-  arrays,
-  search,
-  like,
-  decides,
-  besides,
-  pairsSeen,
-  arraySteps,
-  elementsSeen,
-  searchSteps,
-  size,
-  steps,
-  reads,
-}
-use Rattle.predicate.specs.Place.{sourceBytes, spotValue, elementsOf, bodyValue, asText}
-use Rattle.predicate.specs.declared.place.Source.{Source}
-use Rattle.predicate.specs.declared.place.Source.the-variants as source
-use Rattle.predicate.specs.declared.place.Spot.{Spot}
-use Rattle.predicate.specs.declared.place.Body.{Body}
-use Rattle.predicate.specs.declared.place.Body.the-variants as body
+use Rattle.place.specs.Place.{Array, sourceBytes, spotValue, elementsOf, bodyValue}
+use Rattle.place.specs.declared.Source.{Source}
+use Rattle.place.specs.declared.Source.the-variants as source
+use Rattle.place.specs.declared.Spot.{Spot}
+use Rattle.place.specs.declared.Body.{Body}
+use Rattle.place.specs.declared.Body.the-variants as body
+use Rattle.search.specs.Search.{besides, decides, elementsSeen, searchSteps}
+use Rattle.arrays.specs.Arrays.{pairsSeen, arraySteps}
+use Rattle.like.specs.Like.{asText, size}
+use Rattle.predicate.specs.Test.{Test, values, arrays, search, like, steps, reads}
 
 -- steps
 pairs-few : (xs ys : List (Option ScalarValue)) → pairsSeen xs ys ≤ length xs

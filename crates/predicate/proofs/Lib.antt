@@ -1,5 +1,2 @@
-pub mod Placing
-pub mod Searching
-pub mod Comparing
-pub mod Liking
+pub mod Forms
 pub mod Bounds

@@ -1,3 +1,1 @@
 pub mod Test
-pub mod Place
-pub mod Answers

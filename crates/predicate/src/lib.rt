@@ -1,5 +1,1 @@
-// The tests that comparisons come to: two values, two arrays, ANY and EVERY, LIKE. Each gives its truth and its steps.
-pub mod arrays;
-pub mod place;
-pub mod search;
-pub mod text;
+// A comparison whose parts have been read, with its truth, steps and reads by its form; no code of its own: that of each form stands in `place`, `arrays`, `search`, `like`.

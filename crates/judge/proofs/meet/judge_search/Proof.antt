@@ -1,3 +1,4 @@
+use Rattle.predicate.proofs.Forms.{of-search}
 use Rattle.judge.proofs.Meeting as law
 use borrow.Author.Needs.{needs}
 use Rattle.judge.proofs.meet.judge_search.Statement.{statement}
@@ -5,7 +6,7 @@ use Rattle.judge.proofs.meet.judge_search.Tie as tie
 use Rattle.judge.proofs.meet.judge_search.Reads as reads
 use Rattle.judge.proofs.meet.judge_search.Lts as lts
 use Rattle.judge.proofs.meet.settle.Reads as settle-reads
-use Rattle.predicate.proofs.search.search.Reads as search-reads
+use Rattle.search.proofs.search.Reads as search-reads
 
 -- src/meet.rt:145:11
 settle-requires : tie.Need-settle-requires
@@ -29,7 +30,7 @@ returns c = search law.search-fails
 
 -- src/meet.rt:127:1
 returns-2 : tie.Need-returns-2
-returns-2 c = search law.search-ready
+returns-2 c = search (law.search-ready, of-search)
 
 pub judge-search-spec : {M : Type 1} → statement M
 judge-search-spec =

@@ -8,7 +8,7 @@ use Rattle.judge.proofs.left.read_indexed.Reads as read-indexed-reads
 use Rattle.judge.proofs.meet.meet_body.Reads as meet-body-reads
 use Rattle.judge.proofs.meet.meet_one.Reads as meet-one-reads
 use Rattle.judge.proofs.right.value_of_row.Reads as value-of-row-reads
-use Rattle.predicate.proofs.place.body_at.Reads as body-at-reads
+use Rattle.place.proofs.body_at.Reads as body-at-reads
 use Rattle.record.proofs.kind.same_row.Reads as same-row-reads
 
 -- src/property.rt:79:9

@@ -4,7 +4,7 @@ use Rattle.judge.proofs.right.located.Statement.{statement}
 use Rattle.judge.proofs.right.located.Tie as tie
 use Rattle.judge.proofs.right.located.Reads as reads
 use Rattle.judge.proofs.right.located.Lts as lts
-use Rattle.predicate.proofs.place.bytes_of.Reads as bytes-of-reads
+use Rattle.place.proofs.bytes_of.Reads as bytes-of-reads
 use Rattle.value.proofs.read.item_at.Reads as item-at-reads
 
 -- src/right.rt:63:24
