@@ -1,9 +1,9 @@
 -- Laws of numbers as sets: the empty set, a set of one, the union.
-use mathlib.Core.Path.{_≡_, refl, ap, ap₂, subst, sym as inv, _∙_}
-use mathlib.Core.Bool.{Bool, true, false, _&&_, _||_}
-use Prim.Native.Nat.{ℕ, zero, suc, _≤_, _<_, _+_, _*_, _-_, _/_, _%_, _^_}
+use mathlib.Core.Path.{_≡_, refl, ap, subst, sym as inv, _∙_}
+use mathlib.Core.Bool.{true, false, _||_}
+use Prim.Native.Nat.{ℕ, zero, suc, _<_, _+_, _-_, _/_, _%_, _^_}
 use native.Mathlib.Omega.{arith}
-use native.Mathlib.Nat.{one-mul, mod-lt, zero-lt-suc, div-eq-of-lt, pow-suc}
+use native.Mathlib.Nat.{one-mul, mod-lt, div-eq-of-lt}
 use lib.Pow.{pow-add, pow-lt, pow-pos, shl-shr}
 use lib.Bits.{bitOr, or-shr, or-mod, shifted-even}
 use lib.Dec.{eqb}

@@ -1,15 +1,13 @@
 -- Laws of integers in bytes, each over the width.
-use Prim.Native.Nat.{ℕ, zero, suc, _+_, _-_, _*_, _/_, _^_, _≤_, _<_}
-use mathlib.Core.List.{List, [], _∷_}
-use mathlib.Core.Path.{_≡_, refl, sym, ap, _∙_}
+use Prim.Native.Nat.{ℕ, suc, _+_, _-_, _*_, _/_, _^_, _≤_, _<_}
+use mathlib.Core.List.{List}
+use mathlib.Core.Path.{_≡_, sym, ap}
 use native.Mathlib.Omega.{arith}
 use native.Mathlib.Nat.{pow-succ', pow-le-pow-right}
 use native.Mathlib.Numerals.{add-one}
 use lib.ListN.{length, getD, drop}
-use lib.IntN.{ℤ, pos, negsuc, _-ℤ_}
-use lib.Dec.{ltb}
+use lib.IntN.{pos, negsuc, _-ℤ_}
 use borrow.Author.Tests.{lt-ltb, le-ltb}
-use Rattle.base.specs.Pick.{pick}
 use Rattle.base.specs.LittleEndian.{unsigned, twosComplement}
 use Rattle.base.proofs.Lists.{left-next}
 

@@ -1,9 +1,8 @@
 -- What each operator says of two whole numbers, by way of their order.
 use mathlib.Core.Path.{_≡_, refl, sym, ap, subst}
-use mathlib.Core.Bool.{Bool, true, false, not}
-use Prim.Native.Nat.{ℕ, _≤_, _<_}
+use mathlib.Core.Bool.{Bool, true, false}
+use Prim.Native.Nat.{_≤_, _<_}
 use native.Mathlib.Nat.{le-antisymm, le-of-lt}
-use native.Mathlib.Omega.{arith}
 use lib.Dec.{T, ltb, leb, ltb→lt, le→leb}
 use lib.IntN.{ℤ, pos, negsuc}
 use lib.Signed.{ltZ, leZ, _<ℤ_, _≤ℤ_, ltZ-yes, leZ-yes, ≤ℤ-refl, <ℤ-irrefl, clashℤ}
@@ -11,7 +10,7 @@ use borrow.Author.Tests.{ltb-false}
 use Rattle.base.specs.Pick.{pick}
 use Rattle.base.specs.Order.{holds, orderOfWhole}
 use Rattle.base.specs.declared.order.Order.{Order}
-use Rattle.base.specs.declared.order.Order.the-variants.{Before, Same, After, Undecided}
+use Rattle.base.specs.declared.order.Order.the-variants.{Before, Same, After}
 use Rattle.base.specs.declared.order.Operator.{Operator}
 use Rattle.base.specs.declared.order.Operator.the-variants.{Equal, Unequal, Less, AtMost, Greater, AtLeast}
 use Rattle.base.proofs.Says.{Says, apart}

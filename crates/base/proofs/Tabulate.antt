@@ -1,7 +1,7 @@
 -- A constant table's rule, once over the whole table: a table that equals the list of a function's values at 0, 1, .. holds the value at each index;
 -- a test that is computed over all indices holds at each.
 use mathlib.Core.Path.{_≡_, _∙_, ap, sym, subst}
-use mathlib.Core.Bool.{Bool, true, false, _&&_}
+use mathlib.Core.Bool.{Bool, true, _&&_}
 use lib.Dec.{T}
 use lib.Ieee.Fits.{and-l, and-r}
 use mathlib.Core.List.{List, [], _∷_}

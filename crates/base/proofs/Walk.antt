@@ -1,5 +1,5 @@
 -- Any recursion over offsets unfolds by one step: its fuel is enough.
-use Prim.Native.Nat.{ℕ, zero, suc, _-_, _≤_, _<_}
+use Prim.Native.Nat.{ℕ, zero, suc, _-_, _<_}
 use mathlib.Core.Path.{_≡_}
 use native.Mathlib.Omega.{arith}
 use Rattle.base.specs.Walk.{walk, from, Later}

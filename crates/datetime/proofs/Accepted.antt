@@ -1,18 +1,15 @@
 -- What is accepted: the tests say 01's rules, and no text is both a timestamp and an interval, so that the order of the cases says nothing.
-use mathlib.Core.Path.{_≡_, _∙_, sym}
-use mathlib.Core.Bool.{Bool, true, false, _&&_, _||_}
+use mathlib.Core.Path.{_≡_}
+use mathlib.Core.Bool.{true, false}
 use mathlib.Core.List.{List}
-use mathlib.Core.Logic.{_⊎_, inl, inr}
+use mathlib.Core.Logic.{_⊎_}
 use Prim.Native.Nat.{ℕ, _≤_}
-use lib.Dec.{eqb, leb}
-use lib.ListN.{length}
+use lib.Dec.{eqb}
 use borrow.Author.Tests.{eqb-true}
-use Rattle.base.specs.Part.{byteAt}
-use Rattle.base.specs.Digit.{allDigits}
-use Rattle.base.proofs.Says.{Says, says-and, says-or, says-eqb, says-leb, and-both, apart}
+use Rattle.base.proofs.Says.{Says, says-and, says-or, says-eqb, says-leb, and-both}
 use Rattle.datetime.specs.Calendar.{leapYear, daysInMonth}
 use Rattle.datetime.specs.Fields.{isDate, isTime}
-use Rattle.datetime.specs.Text.{shaped, dateIn, timeIn, signIn, minutesIn}
+use Rattle.datetime.specs.Text.{shaped, timeIn, signIn}
 use Rattle.datetime.specs.Datetime.{isSign, isTimestamp, isInterval, moment, intervalLength, datetimeOf}
 use Rattle.datetime.specs.declared.fields.Date.{Date}
 use Rattle.datetime.specs.declared.fields.Time.{Time}

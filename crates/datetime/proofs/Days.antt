@@ -1,13 +1,12 @@
 -- Days are counted one by one: the year 0000 starts at 0, and the day after each day, over the ends of months and years, has the next number.
-use mathlib.Core.Path.{_≡_, _∙_, refl, ap, sym}
+use mathlib.Core.Path.{_≡_, refl}
 use mathlib.Core.Bool.{Bool, true, false}
-use Prim.Native.Nat.{ℕ, zero, suc, _+_, _-_, _*_, _≤_, _<_}
-use native.Mathlib.Numerals.{add-one}
+use Prim.Native.Nat.{ℕ, suc, _+_, _-_, _≤_, _<_}
 use native.Mathlib.Omega.{arith}
 use lib.Dec.{leb, leb→le}
 use Rattle.base.specs.Pick.{pick}
 use Rattle.base.proofs.Tabulate.{all-at}
-use Rattle.datetime.specs.Calendar.{leapYear, leapYears, daysBeforeYear, daysBeforeMonth, daysInMonth}
+use Rattle.datetime.specs.Calendar.{leapYear, leapYears, daysBeforeMonth, daysInMonth}
 use Rattle.datetime.specs.Moment.{daysBefore}
 use Rattle.datetime.specs.declared.fields.Date.{Date}
 

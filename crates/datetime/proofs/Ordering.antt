@@ -1,6 +1,5 @@
 -- What the operators say of two datetimes.
 use mathlib.Core.Path.{_≡_, refl}
-use mathlib.Core.Bool.{Bool, true, false}
 use lib.IntN.{ℤ}
 use Rattle.base.specs.Order.{holds}
 use Rattle.base.specs.declared.order.Operator.{Operator}

@@ -1,6 +1,6 @@
 -- The Gregorian calendar from the year 0000 on. 01 "Datetime (DSP0004)": "365y plus the leap years from 0 to y−1".
 use Prim.Native.Nat.{ℕ, zero, suc, _+_, _*_, _%_}
-use mathlib.Core.Bool.{Bool, true, false, not, _&&_, _||_}
+use mathlib.Core.Bool.{Bool, not, _&&_, _||_}
 use mathlib.Core.List.{List, [], _∷_}
 use lib.Dec.{eqb}
 use lib.ListN.{getD}

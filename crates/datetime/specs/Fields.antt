@@ -1,5 +1,4 @@
 -- Which dates and times there are. 01 "Datetime (DSP0004)": "Gregorian, year 0000 on, hours to 23, minutes and seconds to 59".
-use Prim.Native.Nat.{ℕ}
 use mathlib.Core.Bool.{Bool, _&&_}
 use lib.Dec.{leb}
 use Rattle.datetime.specs.Calendar.{leapYear, daysInMonth}

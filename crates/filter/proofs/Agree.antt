@@ -1,7 +1,7 @@
 -- The check of a comparison and its meaning in any instance agree: both pass, or both name the same cause at the same place. The two are written apart; here
 -- each form of either side is shown to come to the same.
 use Prim.Native.Nat.{ℕ}
-use mathlib.Core.Path.{_≡_, refl, sym, ap, _∙_}
+use mathlib.Core.Path.{_≡_, refl}
 use mathlib.Core.List.{List, [], _∷_}
 use mathlib.Core.Logic.{_⊎_, inl, inr}
 use mathlib.Core.Bool.{Bool, true, false, not, _&&_, _||_}
@@ -9,7 +9,6 @@ use mathlib.Core.Option.{Option, none, some}
 use Rattle.record.specs.Kind.{kindOf, sameRow}
 use Rattle.record.specs.declared.kind.Family.{Family}
 use Rattle.record.specs.declared.kind.Family.the-variants as family
-use Rattle.record.specs.declared.kind.ValueType.{ValueType}
 use Rattle.record.specs.declared.kind.Kind.{Kind}
 use Rattle.record.specs.declared.kind.Kind.the-variants.{Unknown, Scalar, Array}
 use Rattle.table.specs.declared.lookup.Found.{Found}
@@ -17,7 +16,6 @@ use Rattle.table.specs.declared.lookup.Found.the-variants as found
 use Rattle.table.specs.Table.{isKnown}
 use Rattle.pattern.specs.Reading.{isSome}
 use Rattle.pattern.specs.Regex.{Regex}
-use Rattle.base.specs.declared.order.Operator.{Operator}
 use Rattle.base.specs.declared.order.Operator.the-variants.{Equal, Unequal, Less, AtMost, Greater, AtLeast}
 use Rattle.token.specs.declared.Token.{Token}
 use Rattle.terminal.specs.Terminal.{equality}
@@ -39,95 +37,18 @@ use Rattle.operand.specs.declared.index.IndexRead.{IndexRead}
 use Rattle.operand.specs.declared.index.IndexRead.the-variants.{Reads, TooLarge}
 use Rattle.operand.specs.Named.{named}
 use Rattle.operand.specs.Index.{indexOf}
-use Rattle.operand.specs.LiteralReading.{LiteralReading, misfit, outOfRange, malformed, reads, readLiteral, isNullLiteral}
+use Rattle.operand.specs.LiteralReading.{LiteralReading, misfit, outOfRange, malformed, reads, readLiteral}
 use Rattle.operand.specs.Element.{elementTokens}
 use Rattle.operand.specs.PatternLiteral.{patternOf}
 use Rattle.operand.proofs.Exclusive.{exclusive}
 use Rattle.predicate.specs.Test as test
-use Rattle.predicate.specs.Test.{Test, values, arrays, search, like}
+use Rattle.predicate.specs.Test.{Test, values, arrays, search}
 use Rattle.judge.specs.Meaning as meaning
-use Rattle.judge.specs.Meaning.{
-  Read,
-  unlike,
-  faulty,
-  value,
-  indexedBy,
-  indexed,
-  Left,
-  misshapen,
-  leftScalar,
-  leftArray,
-  Right,
-  unindexable,
-  literalAt,
-  literal,
-  before,
-  elements,
-  notNull,
-  ofRow,
-  rightScalar,
-  rightArray,
-  rightKind,
-  rightProperty,
-  patternBy,
-  rightOf,
-  Meant,
-  fails,
-  means,
-  both,
-  ordered,
-  suits,
-  operatorOf,
-  isNegated,
-  likeText,
-  meet,
-  meantBy,
-  meantAs,
-  asScalar,
-  asArray,
-}
+use Rattle.judge.specs.Meaning.{Read, unlike, faulty, value, indexedBy, Left, misshapen, leftScalar, leftArray, Right, unindexable, literalAt, before, elements, notNull, ofRow, rightScalar, rightArray, rightKind, rightProperty, patternBy, rightOf, Meant, fails, means, both, ordered, suits, operatorOf, isNegated, likeText, meet, meantBy, meantAs, asScalar, asArray}
 use Rattle.judge.specs.Environment.{entryFound, entryNamed}
 use Rattle.judge.proofs.Named.{named-entry}
 use Rattle.filter.specs.Check as check
-use Rattle.filter.specs.Check.{
-  Verdict,
-  passes,
-  breaks,
-  first,
-  demand,
-  eachToken,
-  kindFound,
-  kindNamed,
-  checkName,
-  checkRightName,
-  isArray,
-  Shape,
-  shapeOf,
-  leftShape,
-  rightShape,
-  beside,
-  isFitting,
-  allFit,
-  rowIs,
-  rowFits,
-  hasOrder,
-  isOne,
-  orderFits,
-  orders,
-  checkRead,
-  checkIndex,
-  checkLeftIndex,
-  rangeOf,
-  checkRange,
-  checkRanges,
-  checkPattern,
-  datetimeOf,
-  checkDatetime,
-  checkDatetimes,
-  familyOf,
-  checkKind,
-  checkComparison,
-}
+use Rattle.filter.specs.Check.{Verdict, passes, breaks, first, demand, eachToken, kindFound, kindNamed, checkRightName, isArray, Shape, shapeOf, leftShape, rightShape, beside, isFitting, allFit, rowIs, rowFits, hasOrder, isOne, orderFits, orders, checkRead, checkIndex, checkLeftIndex, rangeOf, checkRange, checkRanges, checkPattern, datetimeOf, checkDatetime, checkDatetimes, checkKind, checkComparison}
 
 abbrev pub Agrees : Verdict → Meant → Type 0
 Agrees passes (means x) = Unit

@@ -1,8 +1,7 @@
 -- What follows from demand 3's agreement: the numbers 30 and 31 exactly; an instance whose values are all NULL; records of a subclass.
-use Prim.Native.Nat.{ℕ, suc, _≤_, _<_}
+use Prim.Native.Nat.{ℕ, suc, _≤_}
 use mathlib.Core.Path.{_≡_, refl, sym, ap, _∙_, subst, fun-ext}
 use mathlib.Core.List.{List, _++_}
-use mathlib.Core.Logic.{_↔_}
 use mathlib.Core.Bool.{Bool, true, false}
 use native.Mathlib.Omega.{arith}
 use lib.ListN.{length}
@@ -32,7 +31,6 @@ use Rattle.filter.specs.Check.{checkCall, check}
 use Rattle.filter.specs.Meaning.{queryMeaning, querySteps}
 use Rattle.filter.specs.Evaluate.{meantIn, answer, answerIf, answerOf, evaluateCall, evaluate, steps}
 use Rattle.filter.specs.Demand3.{Answered, instanceRefused, instanceTooLong, InstanceRefusals}
-use Rattle.filter.specs.declared.refusal.Checked.{Checked}
 use Rattle.filter.specs.declared.refusal.Checked.the-variants as checked
 use Rattle.filter.specs.declared.refusal.Answer.{Answer}
 use Rattle.filter.specs.declared.refusal.Answer.the-variants.{Included, Excluded, Refused}

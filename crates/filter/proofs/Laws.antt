@@ -1,8 +1,7 @@
 -- One law for each exit of `src/`.
-use Prim.Native.Nat.{ℕ, zero, suc, _+_, _-_, _*_, _≤_, _<_}
+use Prim.Native.Nat.{ℕ, _+_, _-_, _≤_, _<_}
 use mathlib.Core.Path.{_≡_, refl, sym, ap, _∙_, subst}
 use mathlib.Core.List.{List}
-use mathlib.Core.Logic.{_↔_}
 use mathlib.Core.Bool.{Bool, true, false, not, _&&_}
 use native.Mathlib.Omega.{arith}
 use borrow.Author.Tests.{ltb-true, ltb-false, not-true, not-false}
@@ -28,12 +27,11 @@ use Rattle.query_text.specs.declared.query.NextResult.the-variants.{HasNext, No
 use Rattle.query_text.specs.declared.query.QueryStart.{QueryStart}
 use Rattle.query_text.specs.declared.query.Verdict.{Verdict}
 use Rattle.query_text.specs.declared.query.Verdict.the-variants as text-verdict
-use Rattle.query_text.specs.Query.{Comparisons, only, more, Query, bad, good, before, lastJoin, nextComparison, queryFrom, queryStart, query, verdict}
+use Rattle.query_text.specs.Query.{Comparisons, Query, bad, good, before, lastJoin, nextComparison, queryFrom, queryStart, query, verdict}
 use Rattle.query_text.specs.Text.{textVerdict, encodedVerdict}
-use Rattle.query_text.specs.Tree.{tree, holds}
+use Rattle.query_text.specs.Tree.{holds}
 use Rattle.query_text.proofs.Laws.{from-out, from-bad, from-last, from-more}
 use Rattle.short_circuit.specs.declared.Told.{Told}
-use Rattle.short_circuit.specs.Count.{treeSteps}
 use Rattle.short_circuit.specs.Walk.{told, initial, stepsIf, walkQuery}
 use Rattle.short_circuit.proofs.Loop.{walk-good}
 use Rattle.instance.specs.Fault.{conformity}
@@ -47,11 +45,11 @@ use Rattle.judge.specs.declared.Judged.the-variants.{Fails, Tells}
 use Rattle.judge.specs.Meaning.{Meant, fails, means, meaning}
 use Rattle.judge.specs.Environment.{entryNamed}
 use Rattle.judge.specs.Answers.{judged}
-use Rattle.filter.specs.Refusal.{Call, refused, compares, callFault, callQuery, callText, callUnder, callOf}
+use Rattle.filter.specs.Refusal.{Call, refused, compares, callQuery, callText, callUnder, callOf}
 use Rattle.filter.specs.Check as check
 use Rattle.filter.specs.Check.{passes, breaks, first, checkComparison, checkAll, asChecked, checkCall}
-use Rattle.filter.specs.Meaning.{truthOf, stepsOf, QueryMeaning, truthful, queryMeaning, unlessFailing, querySteps}
-use Rattle.filter.specs.Evaluate.{meantIn, answer, answerIf, answerOf, evaluateCall, evaluate, stepsCall, steps}
+use Rattle.filter.specs.Meaning.{truthOf, stepsOf, querySteps}
+use Rattle.filter.specs.Evaluate.{meantIn, answer, answerIf, evaluate, stepsCall, steps}
 use Rattle.filter.specs.Answers.{checkQuery, truthIn, stepsIn}
 use Rattle.filter.specs.declared.refusal.Cause.the-variants as cause
 use Rattle.filter.specs.declared.refusal.Refusal.{Refusal}

@@ -1,17 +1,13 @@
 -- The grammar pairs LIKE with a pattern and a comparison operator with anything else: what the definitions say of other pairs is said of no query.
 use Prim.Native.Nat.{ℕ, zero, suc, _+_}
-use mathlib.Core.Path.{_≡_, refl, sym, _∙_, subst}
-use mathlib.Core.List.{List}
+use mathlib.Core.Path.{_≡_, subst}
 use mathlib.Core.Bool.{Bool, true, false, not, _&&_}
-use native.Mathlib.Omega.{arith}
 use Rattle.base.specs.Pick.{pick}
 use Rattle.base.specs.declared.order.Operator.{Operator}
-use Rattle.token.specs.declared.Reserved.the-variants as Reserved
-use Rattle.token.specs.declared.Punctuation.the-variants.{OpenList, CloseList, Comma, OpenIndex}
-use Rattle.token.specs.declared.TokenKind.the-variants.{Word, Text, Symbol}
+use Rattle.token.specs.declared.Punctuation.the-variants.{OpenList, CloseList, Comma}
+use Rattle.token.specs.declared.TokenKind.the-variants.{Text, Symbol}
 use Rattle.token.specs.declared.Token.{Token}
-use Rattle.terminal.specs.Terminal.{same, literal, comparing, equality}
-use Rattle.syntax.specs.declared.path.Index.{Index}
+use Rattle.terminal.specs.Terminal.{same, literal, equality}
 use Rattle.syntax.specs.declared.operation.Operation.{Operation}
 use Rattle.syntax.specs.declared.operation.Operation.the-variants.{Compare, Like, NotLike}
 use Rattle.syntax.specs.declared.operation.OperationResult.{OperationResult}

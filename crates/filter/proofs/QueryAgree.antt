@@ -1,46 +1,23 @@
 -- The check of a whole query and its meaning agree: an induction over the comparisons, from the agreement of one (proofs/Agree).
-use Prim.Native.Nat.{ℕ, suc, _+_, _≤_, _<_}
-use mathlib.Core.Path.{_≡_, refl, sym, ap, _∙_, subst, fun-ext}
-use mathlib.Core.List.{List, _++_}
-use mathlib.Core.Logic.{_⊎_, inl, inr, _↔_}
-use mathlib.Core.Bool.{Bool, true, false}
+use Prim.Native.Nat.{ℕ, _+_, _≤_}
+use mathlib.Core.Path.{_≡_, refl, ap}
+use mathlib.Core.List.{List}
+use mathlib.Core.Bool.{Bool, false}
 use native.Mathlib.Omega.{arith}
-use lib.ListN.{length}
-use Rattle.record.specs.Record.{Fit, records}
-use Rattle.table.specs.Table.{FreeOfFaults, IsGood, tableReading}
-use Rattle.table.specs.Properties.{kindsOf}
-use Rattle.table.specs.declared.validate.TableReading.{TableReading}
-use Rattle.table.specs.declared.validate.TableReading.the-variants as table-reading
-use Rattle.instance.specs.Conforms.{Conforms}
 use Rattle.instance.specs.Fault.{conformity}
-use Rattle.instance.specs.Value.{Entry, environment}
-use Rattle.instance.specs.declared.conform.InstanceFault.{InstanceFault}
-use Rattle.instance.specs.declared.conform.InstanceFault.the-variants.{TooLong, Nonconforming}
-use Rattle.instance.specs.declared.conform.Conformity.{Conformity}
-use Rattle.instance.specs.declared.conform.Conformity.the-variants.{Conforming, Fault}
-use Rattle.instance.proofs.Decides.{conforms-no-fault, IsLong, IsWrong, long-exactly, long-place, wrong-exactly}
-use Rattle.instance.proofs.Built.{nulls, nulls-conform, appended-conforms}
-use Rattle.instance.proofs.Environment.{environment-stays}
-use Rattle.syntax.specs.declared.comparison.Comparison.{Comparison}
-use Rattle.syntax.specs.declared.path.Path as path
 use Rattle.query_text.specs.Query.{Comparisons, only, more}
 use Rattle.query_text.specs.Tree.{tree, holds}
 use Rattle.short_circuit.proofs.Bound.{steps-below}
-use Rattle.operand.specs.Named.{named}
 use Rattle.predicate.proofs.Bounds.{steps-bounded}
 use Rattle.judge.specs.Meaning.{Meant, fails, means}
-use Rattle.judge.specs.Environment.{entryFound, entryNamed}
-use Rattle.filter.specs.Refusal.{Call, refused, compares, callOf, callUnder}
+use Rattle.filter.specs.Refusal.{Call, refused, compares, callOf}
 use Rattle.filter.specs.Check.{Verdict, passes, breaks, first, checkComparison, checkAll, asChecked, checkCall, check}
 use Rattle.filter.specs.Meaning.{truthOf, stepsOf, readsOf, QueryMeaning, failing, truthful, failure, unlessFailing, queryMeaning, querySteps, queryBound}
-use Rattle.filter.specs.Evaluate.{meantIn, answer, answerIf, answerOf, evaluateCall, evaluate, stepsCall, steps, boundCall, bound}
-use Rattle.filter.specs.Demand3.{Answered, Demand3, instanceRefused, instanceTooLong, InstanceRefusals}
-use Rattle.filter.specs.declared.refusal.Cause.the-variants as cause
-use Rattle.filter.specs.declared.refusal.Refusal.{Refusal}
+use Rattle.filter.specs.Evaluate.{meantIn, answerIf, answerOf, evaluateCall, evaluate, stepsCall, steps, boundCall, bound}
 use Rattle.filter.specs.declared.refusal.Checked.{Checked}
 use Rattle.filter.specs.declared.refusal.Checked.the-variants as checked
 use Rattle.filter.specs.declared.refusal.Answer.{Answer}
-use Rattle.filter.specs.declared.refusal.Answer.the-variants.{Included, Excluded, Refused}
+use Rattle.filter.specs.declared.refusal.Answer.the-variants.{Refused}
 use Rattle.filter.proofs.Agree.{Agrees, comparison-agrees}
 
 -- a query: the check passes and nothing fails, so that `w` stands; or the query fails with the check's cause and place

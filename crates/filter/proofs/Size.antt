@@ -1,14 +1,13 @@
 -- A comparison reads at most as much as the instance has bytes, so that the steps of 64 of them are far from 2^64.
 use Prim.Native.Nat.{ℕ, _+_, _≤_}
-use mathlib.Core.Path.{_≡_, refl, sym, ap, _∙_, subst}
+use mathlib.Core.Path.{_≡_, refl, sym, subst}
 use mathlib.Core.List.{List}
 use mathlib.Core.Bool.{Bool, true, false}
-use mathlib.Core.Option.{Option, none, some}
+use mathlib.Core.Option.{Option}
 use native.Mathlib.Omega.{arith}
-use lib.ListN.{length, getD}
+use lib.ListN.{length}
 use Rattle.base.specs.Part.{part}
-use Rattle.record.specs.Record.{records}
-use Rattle.record.specs.Kind.{kindOf, sameRow}
+use Rattle.record.specs.Kind.{kindOf}
 use Rattle.record.specs.declared.kind.Family.{Family}
 use Rattle.record.specs.declared.kind.Family.the-variants as family
 use Rattle.record.specs.declared.kind.ValueType.{ValueType}
@@ -16,9 +15,6 @@ use Rattle.record.specs.declared.kind.Kind.{Kind}
 use Rattle.record.specs.declared.kind.Kind.the-variants.{Unknown, Scalar, Array}
 use Rattle.table.specs.declared.lookup.Found.{Found}
 use Rattle.table.specs.declared.lookup.Found.the-variants as found
-use Rattle.pattern.specs.Regex.{Regex}
-use Rattle.token.specs.declared.Token.{Token}
-use Rattle.terminal.specs.Terminal.{equality}
 use Rattle.terminal.specs.declared.quantifier.Quantifier.{Quantifier}
 use Rattle.terminal.specs.declared.quantifier.Quantifier.the-variants.{Single, Any, Every}
 use Rattle.syntax.specs.declared.path.Index.{Index}
@@ -29,8 +25,7 @@ use Rattle.syntax.specs.declared.left_side.LeftSide.{LeftSide}
 use Rattle.syntax.specs.declared.comparison.Comparison.{Comparison}
 use Rattle.instance.specs.Start.{startOf}
 use Rattle.instance.specs.Value as value
-use Rattle.instance.specs.Value.{ScalarValue, Entry, absent, property, environment, valueAt}
-use Rattle.value.specs.Read.{valueInRecord}
+use Rattle.instance.specs.Value.{ScalarValue, Entry, environment, valueAt}
 use Rattle.operand.specs.Named.{named}
 use Rattle.operand.specs.Index.{indexOf}
 use Rattle.operand.specs.declared.index.IndexRead.{IndexRead}
@@ -40,37 +35,10 @@ use Rattle.place.specs.declared.Body.{Body}
 use Rattle.place.specs.declared.Body.the-variants as body
 use Rattle.place.specs.Place.{bodyAt, bodyValue}
 use Rattle.like.specs.Like.{asText, size}
-use Rattle.predicate.specs.Test.{Test, values, arrays, search, like, reads}
+use Rattle.predicate.specs.Test.{Test, values, arrays, search, reads}
 use Rattle.predicate.proofs.Bounds.{steps-bounded, body-few, text-few, spot-few}
 use Rattle.judge.specs.Meaning as meaning
-use Rattle.judge.specs.Meaning.{
-  Read,
-  unlike,
-  faulty,
-  asScalar,
-  asArray,
-  elementOf,
-  indexedBy,
-  Left,
-  misshapen,
-  leftScalar,
-  leftArray,
-  Right,
-  missing,
-  unindexable,
-  Meant,
-  fails,
-  means,
-  both,
-  suits,
-  operatorOf,
-  isNegated,
-  likeText,
-  meet,
-  rightOf,
-  meantBy,
-  meantAs,
-}
+use Rattle.judge.specs.Meaning.{Read, unlike, faulty, elementOf, indexedBy, Left, misshapen, leftScalar, leftArray, Right, missing, unindexable, Meant, fails, means, both, operatorOf, isNegated, likeText, meet, meantBy, meantAs}
 use Rattle.judge.specs.Environment.{entryFound, entryNamed}
 use Rattle.judge.proofs.Sides.{element-start}
 use Rattle.judge.proofs.Meeting.{scalar-of, array-of}

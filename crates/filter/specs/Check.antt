@@ -12,7 +12,6 @@ use Rattle.table.specs.declared.lookup.Found.{Found}
 use Rattle.table.specs.declared.lookup.Found.the-variants as found
 use Rattle.table.specs.Table.{isKnown}
 use Rattle.pattern.specs.Reading.{isSome}
-use Rattle.base.specs.declared.order.Operator.{Operator}
 use Rattle.token.specs.declared.Token.{Token}
 use Rattle.terminal.specs.Terminal.{equality}
 use Rattle.terminal.specs.declared.quantifier.Quantifier.{Quantifier}

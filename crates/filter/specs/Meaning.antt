@@ -1,8 +1,7 @@
 -- 01 "Meaning" and "Steps", of a whole query: `m` is what each of its comparisons means. "A query fails if any of its comparisons does, skipped ones included."
 -- "AND binds before OR, in a group and between groups": query_text/specs/Tree.
 use Prim.Native.Nat.{ℕ, _+_}
-use mathlib.Core.List.{List}
-use mathlib.Core.Bool.{Bool, true, false}
+use mathlib.Core.Bool.{Bool, false}
 use Rattle.syntax.specs.declared.comparison.Comparison.{Comparison}
 use Rattle.query_text.specs.Query.{Comparisons, only, more}
 use Rattle.query_text.specs.Tree.{tree, holds}

@@ -1,6 +1,6 @@
 -- One law for each exit of `src/`.
 use Prim.Native.Nat.{ℕ, _-_}
-use mathlib.Core.Path.{_≡_, refl, sym, ap, _∙_}
+use mathlib.Core.Path.{_≡_, refl, ap, _∙_}
 use Rattle.filter.specs.Refusal.{numberOf}
 use Rattle.filter.specs.declared.refusal.Refusal.{Refusal}
 use Rattle.filter.specs.declared.refusal.Checked.{Checked}
@@ -18,7 +18,6 @@ use Rattle.mark.specs.declared.refusal.Marked.the-variants as marked
 use Rattle.fql_export.specs.declared.FqlRefusal.{FqlRefusal}
 use Rattle.fql_export.specs.declared.FqlAnswer.{FqlAnswer}
 use Rattle.fql_export.specs.declared.FqlTotals.{FqlTotals}
-use Rattle.fql_export.specs.declared.FqlPart.{FqlPart}
 use Rattle.fql_export.specs.Answers.{refusalOf, answerOf, totalsOf, partOf}
 
 module _ (c : Checked) where

@@ -1,33 +1,27 @@
 -- The readers look at tokens one after another: what they find, and where they fail, is the same for every text whose tokens are of the same
 -- kinds up to the last one that they look at.
-use Prim.Native.Nat.{ℕ, zero, suc, _+_, _-_, _≤_, _<_}
+use Prim.Native.Nat.{ℕ, zero, suc, _-_, _≤_, _<_}
 use mathlib.Core.Path.{_≡_, refl, sym, ap, _∙_}
 use mathlib.Core.List.{List}
 use mathlib.Core.Logic.{_⊎_, inl, inr}
-use mathlib.Core.Bool.{Bool, true, false, not, _&&_, _||_}
+use mathlib.Core.Bool.{Bool, true, false, _&&_}
 use native.Mathlib.Omega.{arith}
 use lib.ListN.{length}
 use lib.Dec.{eqb}
-use Rattle.base.specs.Pick.{pick}
 use Rattle.token.specs.declared.Reserved.the-variants as Reserved
-use Rattle.token.specs.declared.Punctuation.the-variants.{Open, Close, OpenIndex, CloseIndex, OpenList, CloseList, Comma, Dot}
+use Rattle.token.specs.declared.Punctuation.the-variants.{OpenIndex, CloseIndex, Dot}
 use Rattle.token.specs.declared.TokenKind.{TokenKind}
-use Rattle.token.specs.declared.TokenKind.the-variants.{End, Name, Word, Text, Symbol}
+use Rattle.token.specs.declared.TokenKind.the-variants.{End, Name, Word, Symbol}
 use Rattle.token.specs.declared.Token.{Token}
 use Rattle.token.specs.Token.{token, tokenAfter}
-use Rattle.base.specs.declared.order.Operator.{Operator}
 use Rattle.terminal.specs.declared.quantifier.Quantifier.{Quantifier}
-use Rattle.terminal.specs.declared.quantifier.Quantifier.the-variants.{Single, Any, Every}
-use Rattle.terminal.specs.declared.operator.BoolOp.the-variants as BoolOp
+use Rattle.terminal.specs.declared.quantifier.Quantifier.the-variants.{Any, Every}
 use Rattle.terminal.specs.declared.operator.Comparing.{Comparing}
-use Rattle.terminal.specs.declared.operator.Comparing.the-variants.{By, NoOperator}
 use Rattle.terminal.specs.declared.operator.Joining.{Joining}
-use Rattle.terminal.specs.declared.operator.Joining.the-variants.{With, NoBoolOp}
-use Rattle.terminal.specs.Terminal.{same, code, word, wordKind, literal, literalKind, comparing, comparingKind, joining, quantifying, opening, unsigned, equality}
+use Rattle.terminal.specs.Terminal.{same, code, word, wordKind, literal, literalKind, comparing, comparingKind, joining, quantifying, opening, unsigned}
 use Rattle.syntax.specs.declared.path.Path.{Path}
 use Rattle.syntax.specs.declared.path.Index.{Index}
 use Rattle.syntax.specs.declared.path.Index.the-variants.{Whole, At}
-use Rattle.syntax.specs.declared.path.PathResult.{PathResult}
 use Rattle.syntax.specs.declared.path.PathResult.the-variants.{HasPath, NoPath}
 use Rattle.syntax.specs.declared.path.IndexResult.the-variants.{HasIndex, NoIndex}
 use Rattle.syntax.specs.declared.path.ReferenceResult.the-variants.{HasReference, NoReference}

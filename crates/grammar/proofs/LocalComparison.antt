@@ -30,7 +30,7 @@ use Rattle.syntax.specs.declared.comparison.Comparison.{Comparison}
 use Rattle.syntax.specs.declared.comparison.ComparisonResult.the-variants.{HasComparison, NoComparison}
 use Rattle.syntax.specs.declared.fault.Cause.{Cause}
 use Rattle.syntax.specs.declared.fault.Cause.the-variants.{Grammar, Limit}
-use Rattle.syntax.specs.Scan.{scan, fault, limited, skip}
+use Rattle.syntax.specs.Scan.{scan, fault}
 use Rattle.syntax.specs.Comparison.{single, plain, leftOf, leftBy, leftAt, leftSide, notLike, like, operationBy, operation, elements, listFrom, arrayLiteral, operandOf, operand, pattern, rightSide, propertyComp}
 use Rattle.syntax.proofs.Laws.{comp-no-left, comp-no-operation, comp-no-right, comp-has}
 use Rattle.grammar.proofs.Local.{tok, Agree, Local, same-at, literal-at, comparing-at, quantifying-at, and-at, local-map, local-then, isWhole, ReferenceEnd, ReferenceFail, reference-local}

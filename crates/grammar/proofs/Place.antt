@@ -1,24 +1,21 @@
 -- The place of 11 and of 12: they are said at a token such that every text with tokens of the same kinds up to it is refused there too.
 -- So no text that agrees with the query on every token before the fault's and has that token derives (11), or derives within the limits (12).
-use Prim.Native.Nat.{ℕ, zero, suc, _+_, _-_, _≤_, _<_}
+use Prim.Native.Nat.{ℕ, zero, suc, _-_}
 use mathlib.Core.Path.{_≡_, refl, sym, ap, _∙_}
 use mathlib.Core.List.{List}
 use mathlib.Core.Logic.{_⊎_, inl, inr}
 use mathlib.Core.Bool.{Bool, true, false}
 use native.Mathlib.Omega.{arith}
-use Rattle.base.specs.Pick.{pick}
 use Rattle.token.specs.declared.Punctuation.the-variants.{Open, Close}
 use Rattle.token.specs.declared.TokenKind.the-variants.{End, Symbol}
 use Rattle.token.specs.declared.Token.{Token}
-use Rattle.token.specs.Token.{token}
 use Rattle.terminal.specs.declared.operator.Joining.{Joining}
 use Rattle.terminal.specs.declared.operator.Joining.the-variants.{With, NoBoolOp}
 use Rattle.terminal.specs.Terminal.{same, joining, opening}
 use Rattle.syntax.specs.declared.comparison.Comparison.{Comparison}
 use Rattle.syntax.specs.declared.fault.Cause.{Cause}
 use Rattle.syntax.specs.declared.fault.Cause.the-variants.{Grammar, Limit}
-use Rattle.syntax.specs.declared.fault.Fault.{Fault}
-use Rattle.syntax.specs.Scan.{scan, fault, limited, skip}
+use Rattle.syntax.specs.Scan.{scan, fault}
 use Rattle.query_text.specs.declared.join.Join.{Join}
 use Rattle.query_text.specs.declared.join.Join.the-variants.{Last, Inner, Outer}
 use Rattle.query_text.specs.declared.join.JoinResult.the-variants.{HasJoin, NoJoin}
@@ -28,7 +25,7 @@ use Rattle.grammar.specs.Abnf.{Derives}
 use Rattle.query_text.proofs.Laws.{from-out, from-bad, from-last, from-more}
 use Rattle.grammar.proofs.Exact.{DerivesWithin, refused-grammar, refused-limit}
 use Rattle.grammar.proofs.Local.{tok, Agree, Local, same-at, joining-at, opening-at, agree-self, local-map, local-then}
-use Rattle.grammar.proofs.LocalComparison.{ComparisonEnd, ComparisonFail, ComparisonLocal, comparison-local}
+use Rattle.grammar.proofs.LocalComparison.{ComparisonEnd, ComparisonLocal, comparison-local}
 
 module _ (q : List ℕ) where
   -- what follows a comparison

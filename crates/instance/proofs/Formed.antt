@@ -34,34 +34,7 @@ use Rattle.table.specs.Properties.{kindsOf}
 use Rattle.instance.specs.Body.{HasFamily, HasType}
 use Rattle.instance.specs.Conforms.{Slot, count, Elements, HasKind, Conforms}
 use Rattle.instance.specs.Start.{startOf}
-use Rattle.instance.specs.Value.{
-  ScalarValue,
-  truth,
-  whole,
-  real,
-  text,
-  octets,
-  datetime,
-  reference,
-  Value,
-  null,
-  single,
-  array,
-  Entry,
-  absent,
-  property,
-  wholeIn,
-  familyValue,
-  scalarIn,
-  elementIn,
-  elements,
-  bodyValue,
-  valueIn,
-  valueAt,
-  entryAt,
-  environmentUnder,
-  environment,
-}
+use Rattle.instance.specs.Value.{ScalarValue, truth, whole, real, text, octets, datetime, reference, Value, null, single, array, Entry, absent, property, wholeIn, familyValue, scalarIn, elementIn, elements, bodyValue, valueAt, entryAt, environmentUnder, environment}
 use Rattle.instance.proofs.Environment.{record-of, some-at, none-at}
 
 -- a whole number of w bytes, with a sign or not

@@ -17,14 +17,12 @@ use Rattle.syntax.specs.declared.right_side.RightSide.{RightSide}
 use Rattle.syntax.specs.declared.right_side.RightSide.the-variants.{Literal, Elements, Property, Pattern}
 use Rattle.syntax.specs.declared.comparison.Comparison.{Comparison}
 use Rattle.instance.specs.Start.{startOf}
-use Rattle.instance.specs.Value.{ScalarValue, Value, Entry, valueAt}
-use Rattle.value.specs.Read.{valueInRecord}
+use Rattle.instance.specs.Value.{ScalarValue, Entry, valueAt}
 use Rattle.operand.specs.declared.cause.Cause.the-variants as cause
 use Rattle.operand.specs.Named.{named}
 use Rattle.operand.specs.LiteralReading.{isNullLiteral}
 use Rattle.operand.specs.Element.{elementTokens}
 use Rattle.operand.specs.PatternLiteral.{patternOf}
-use Rattle.predicate.specs.Test as test
 use Rattle.place.specs.declared.Body.{Body}
 use Rattle.place.specs.Place.{bodyAt, bodyValue}
 use Rattle.judge.specs.declared.Judged.{Judged}

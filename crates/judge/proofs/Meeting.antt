@@ -1,17 +1,16 @@
 -- Laws of both sides together: one for each exit of `src/meet.rt`, `src/property.rt` and `src/lib.rt`.
-use Prim.Native.Nat.{ℕ, zero, suc, _+_, _-_, _≤_, _<_}
+use Prim.Native.Nat.{ℕ, _-_}
 use mathlib.Core.Path.{_≡_, refl, sym, ap, _∙_}
-use mathlib.Core.List.{List, [], _∷_}
+use mathlib.Core.List.{List}
 use mathlib.Core.Bool.{Bool, true, false, not, _&&_, _||_}
 use mathlib.Core.Option.{Option, none, some}
 use native.Mathlib.Omega.{arith}
-use lib.ListN.{length, getD}
 use lib.Dec.{eqb}
 use borrow.Author.Tests.{not-true, not-false}
 use Rattle.base.specs.Pick.{pick}
 use Rattle.base.proofs.Says.{and-both}
 use Rattle.base.specs.Part.{part}
-use Rattle.record.specs.Record.{recordAt, Records, records}
+use Rattle.record.specs.Record.{recordAt, records}
 use Rattle.record.specs.Kind.{kindOf}
 use Rattle.record.specs.declared.read.RecordAt.{RecordAt}
 use Rattle.record.specs.declared.read.RecordAt.the-variants as record-at
@@ -19,34 +18,24 @@ use Rattle.record.specs.declared.kind.Family.{Family}
 use Rattle.record.specs.declared.kind.ValueType.{ValueType}
 use Rattle.record.specs.declared.kind.Kind.{Kind}
 use Rattle.record.specs.declared.kind.Kind.the-variants.{Unknown, Scalar, Array}
-use Rattle.record.proofs.Records.{records-whole, records-broken, records-end}
 use Rattle.token.specs.declared.Token.{Token}
-use Rattle.terminal.specs.declared.quantifier.Quantifier.{Quantifier}
-use Rattle.terminal.specs.declared.quantifier.Quantifier.the-variants.{Single, Any, Every}
 use Rattle.syntax.specs.declared.path.Index.{Index}
 use Rattle.syntax.specs.declared.path.Index.the-variants.{Whole, At}
-use Rattle.instance.specs.Start.{nextOf, nextAt, startOf}
+use Rattle.instance.specs.Start.{startOf}
 use Rattle.instance.specs.Value as value
-use Rattle.instance.specs.Value.{ScalarValue, elementIn, valueAt}
+use Rattle.instance.specs.Value.{ScalarValue, valueAt}
 use Rattle.value.specs.Read.{valueIn, valueInRecord, asValue}
 use Rattle.value.proofs.Reading.{scalar-property}
 use Rattle.operand.specs.declared.cause.Cause.{Cause}
 use Rattle.operand.specs.declared.cause.Cause.the-variants as cause
-use Rattle.operand.specs.declared.index.IndexRead.{IndexRead}
-use Rattle.operand.specs.declared.index.IndexRead.the-variants.{Reads, TooLarge}
-use Rattle.operand.specs.declared.literal_read.LiteralRead.{LiteralRead}
-use Rattle.operand.specs.declared.literal_read.LiteralRead.the-variants as literal-read
-use Rattle.operand.specs.Index.{indexOf}
-use Rattle.operand.specs.LiteralReading.{LiteralReading, misfit, outOfRange, malformed, reads, readLiteral}
-use Rattle.operand.specs.Answers.{readingOf}
-use Rattle.operand.specs.Element.{nextElement, elementsFrom}
+use Rattle.operand.specs.declared.index.IndexRead.the-variants.{TooLarge}
 use Rattle.place.specs.declared.Source.the-variants as source
 use Rattle.place.specs.declared.Spot.{Spot}
 use Rattle.place.specs.declared.Located.{Located}
 use Rattle.place.specs.declared.Body.{Body}
 use Rattle.place.specs.declared.Body.the-variants as body
 use Rattle.predicate.specs.Test as test
-use Rattle.place.specs.Place.{sourceBytes, spotValue, locatedValue, bodyOf, bodyAt, elementsOf, bodyValue, valueRead, literalValues}
+use Rattle.place.specs.Place.{spotValue, locatedValue, bodyOf, bodyAt, bodyValue, literalValues}
 use Rattle.judge.specs.declared.left.SpotRead.{SpotRead}
 use Rattle.judge.specs.declared.left.SpotRead.the-variants as spot
 use Rattle.judge.specs.declared.left.Left as code-left
@@ -56,8 +45,8 @@ use Rattle.judge.specs.declared.right.ItemRead.the-variants as item
 use Rattle.judge.specs.declared.right.ListRead.{ListRead}
 use Rattle.judge.specs.declared.right.ListRead.the-variants as list
 use Rattle.judge.specs.Meaning as meaning
-use Rattle.judge.specs.Meaning.{Read, unlike, faulty, asScalar, asArray, elementOf, indexedBy, indexed, leftScalar, leftArray, literalAt, literal, before, elements, ofRow}
-use Rattle.judge.specs.Answers.{spotRead, leftSeen, itemRead, listRead, listBefore, ElementIn, IndexedIn, ScalarLeft, ArrayLeft, ListOf}
+use Rattle.judge.specs.Meaning.{Read, unlike, faulty, asScalar, asArray, elements, ofRow}
+use Rattle.judge.specs.Answers.{spotRead, leftSeen, itemRead, listRead, IndexedIn}
 use Rattle.record.specs.Kind.{sameRow}
 use Rattle.record.specs.declared.kind.Family.the-variants as family
 use Rattle.pattern.specs.Regex.{Regex}
@@ -66,9 +55,7 @@ use Rattle.base.specs.declared.order.Operator.{Operator}
 use Rattle.terminal.specs.Terminal.{equality}
 use Rattle.syntax.specs.declared.operation.Operation.{Operation}
 use Rattle.syntax.specs.declared.left_side.LeftSide.{LeftSide}
-use Rattle.syntax.specs.declared.comparison.Comparison.{Comparison}
 use Rattle.short_circuit.specs.declared.Told.{Told}
-use Rattle.operand.specs.Element.{elementTokens}
 use Rattle.operand.specs.PatternLiteral.{patternOf}
 use Rattle.value.specs.Compare.{compares}
 use Rattle.arrays.specs.Answers.{compared}
@@ -79,7 +66,7 @@ use Rattle.judge.specs.declared.Judged.{Judged}
 use Rattle.judge.specs.declared.Judged.the-variants.{Fails, Tells}
 use Rattle.judge.specs.declared.meet.Settled.{Settled}
 use Rattle.judge.specs.declared.meet.Settled.the-variants as settling
-use Rattle.judge.specs.Meaning.{Right, Meant, fails, means, both, meet, operatorOf, isNegated, ordered, suits, notNull, patternBy, likeText}
+use Rattle.judge.specs.Meaning.{Right, means, both, meet, operatorOf, isNegated, ordered, suits, notNull, patternBy, likeText}
 use Rattle.judge.specs.Answers.{judged, settledOne, settled}
 use Rattle.table.specs.declared.lookup.Found.{Found}
 use Rattle.table.specs.declared.lookup.Found.the-variants as found

@@ -1,6 +1,6 @@
 -- A path that names a property stands for it in the environment.
 use Prim.Native.Nat.{ℕ}
-use mathlib.Core.Path.{_≡_, refl, sym, ap, _∙_}
+use mathlib.Core.Path.{_≡_, ap, _∙_}
 use mathlib.Core.List.{List}
 use mathlib.Core.Bool.{Bool, true, false, _&&_}
 use native.Mathlib.Omega.{arith}
@@ -8,11 +8,10 @@ use lib.Dec.{eqb}
 use Rattle.base.specs.Pick.{pick}
 use Rattle.record.specs.Name.{sameName}
 use Rattle.table.specs.Properties.{className, findProperty}
-use Rattle.table.specs.declared.lookup.Found.{Found}
 use Rattle.table.specs.declared.lookup.Found.the-variants as found
 use Rattle.syntax.specs.declared.path.Path as path
 use Rattle.instance.specs.Start.{startOf}
-use Rattle.instance.specs.Value.{Entry, property, environment, valueAt}
+use Rattle.instance.specs.Value.{property, environment, valueAt}
 use Rattle.instance.proofs.Environment.{entry-found}
 use Rattle.operand.specs.Named.{spanned, named}
 use Rattle.judge.specs.Environment.{entryFound, entryNamed}

@@ -3,32 +3,26 @@ use Prim.Native.Nat.{ℕ, zero, suc, _+_, _-_, _≤_, _<_}
 use mathlib.Core.Path.{_≡_, refl, sym, ap, _∙_}
 use mathlib.Core.List.{List, [], _∷_}
 use mathlib.Core.Bool.{Bool, true, false, not}
-use mathlib.Core.Option.{Option, none, some}
+use mathlib.Core.Option.{Option, none}
 use native.Mathlib.Omega.{arith}
-use lib.ListN.{length, getD}
-use lib.Dec.{eqb}
-use Rattle.base.specs.Pick.{pick}
+use lib.ListN.{getD}
 use Rattle.base.specs.Part.{part}
-use Rattle.record.specs.Record.{recordAt, Records, records}
-use Rattle.record.specs.Kind.{kindOf}
+use Rattle.record.specs.Record.{recordAt, records}
 use Rattle.record.specs.declared.read.RecordAt.{RecordAt}
 use Rattle.record.specs.declared.read.RecordAt.the-variants as record-at
 use Rattle.record.specs.declared.kind.Family.{Family}
 use Rattle.record.specs.declared.kind.ValueType.{ValueType}
-use Rattle.record.specs.declared.kind.Kind.{Kind}
-use Rattle.record.specs.declared.kind.Kind.the-variants.{Scalar, Array}
 use Rattle.record.proofs.Records.{records-whole, records-broken, records-end}
 use Rattle.token.specs.declared.Token.{Token}
 use Rattle.terminal.specs.declared.quantifier.Quantifier.{Quantifier}
 use Rattle.terminal.specs.declared.quantifier.Quantifier.the-variants.{Single, Any, Every}
 use Rattle.syntax.specs.declared.path.Index.{Index}
 use Rattle.syntax.specs.declared.path.Index.the-variants.{Whole, At}
-use Rattle.instance.specs.Start.{nextOf, nextAt, startOf}
+use Rattle.instance.specs.Start.{nextOf, startOf}
 use Rattle.instance.specs.Value as value
-use Rattle.instance.specs.Value.{ScalarValue, elementIn, valueAt}
+use Rattle.instance.specs.Value.{ScalarValue}
 use Rattle.value.specs.Item.{itemValue}
-use Rattle.value.specs.Read.{valueIn, valueInRecord, asValue}
-use Rattle.value.proofs.Reading.{scalar-property}
+use Rattle.value.specs.Read.{valueIn, valueInRecord}
 use Rattle.operand.specs.declared.cause.Cause.{Cause}
 use Rattle.operand.specs.declared.cause.Cause.the-variants as cause
 use Rattle.operand.specs.declared.index.IndexRead.{IndexRead}
@@ -44,18 +38,16 @@ use Rattle.place.specs.declared.Spot.{Spot}
 use Rattle.place.specs.declared.Located.{Located}
 use Rattle.place.specs.declared.Body.{Body}
 use Rattle.place.specs.declared.Body.the-variants as body
-use Rattle.predicate.specs.Test as test
-use Rattle.place.specs.Place.{sourceBytes, spotValue, locatedValue, bodyOf, bodyAt, elementsOf, bodyValue, valueRead, literalValues}
+use Rattle.place.specs.Place.{sourceBytes, spotValue, locatedValue, bodyValue, valueRead, literalValues}
 use Rattle.judge.specs.declared.left.SpotRead.{SpotRead}
 use Rattle.judge.specs.declared.left.SpotRead.the-variants as spot
-use Rattle.judge.specs.declared.left.Left as code-left
 use Rattle.judge.specs.declared.left.Left.the-variants as code
 use Rattle.judge.specs.declared.right.ItemRead.{ItemRead}
 use Rattle.judge.specs.declared.right.ItemRead.the-variants as item
 use Rattle.judge.specs.declared.right.ListRead.{ListRead}
 use Rattle.judge.specs.declared.right.ListRead.the-variants as list
 use Rattle.judge.specs.Meaning as meaning
-use Rattle.judge.specs.Meaning.{Read, unlike, faulty, asScalar, asArray, elementOf, indexedBy, indexed, leftScalar, leftArray, literalAt, literal, before, elements, ofRow}
+use Rattle.judge.specs.Meaning.{Read, unlike, faulty, elementOf, leftScalar, leftArray, literalAt, literal, before, elements, ofRow}
 use Rattle.judge.specs.Answers.{spotRead, leftSeen, itemRead, listRead, listBefore, ElementIn, IndexedIn, ScalarLeft, ArrayLeft, ListOf}
 
 -- ---- an element by its index is the value in the record that starts there

@@ -1,16 +1,15 @@
 -- What the code's answers say.
 use Prim.Native.Nat.{ℕ}
 use mathlib.Core.List.{List}
-use mathlib.Core.Bool.{Bool, true, false}
+use mathlib.Core.Bool.{Bool}
 use mathlib.Core.Path.{_≡_}
-use mathlib.Core.Option.{Option, none, some}
+use mathlib.Core.Option.{Option}
 use Rattle.base.specs.Pick.{pick}
 use Rattle.record.specs.declared.kind.ValueType.{ValueType}
 use Rattle.token.specs.declared.Token.{Token}
 use Rattle.terminal.specs.declared.quantifier.Quantifier.{Quantifier}
 use Rattle.syntax.specs.declared.path.Index.{Index}
 use Rattle.instance.specs.Value.{ScalarValue}
-use Rattle.operand.specs.declared.cause.Cause.{Cause}
 use Rattle.operand.specs.declared.cause.Cause.the-variants as cause
 use Rattle.value.specs.Read.{valueInRecord}
 use Rattle.place.specs.declared.Spot.{Spot}

@@ -10,7 +10,6 @@ use Rattle.base.specs.declared.order.Operator.the-variants.{Equal, Unequal}
 use Rattle.record.specs.Kind.{kindOf, sameRow}
 use Rattle.record.specs.declared.kind.Family.{Family}
 use Rattle.record.specs.declared.kind.Family.the-variants as family
-use Rattle.record.specs.declared.kind.ValueType.{ValueType}
 use Rattle.record.specs.declared.kind.Kind.{Kind}
 use Rattle.record.specs.declared.kind.Kind.the-variants.{Unknown, Scalar, Array}
 use Rattle.pattern.specs.Regex.{Regex}

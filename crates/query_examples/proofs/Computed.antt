@@ -1,6 +1,5 @@
 -- What is said of the queries, computed.
 use mathlib.Core.Path.{_≡_, refl}
-use mathlib.Core.List.{_++_}
 use Rattle.base.specs.Range.{within}
 use Rattle.base.specs.Walk.{walk, from}
 use Rattle.base.specs.Digit.{digitOf, valueOf}

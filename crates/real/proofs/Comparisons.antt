@@ -1,15 +1,14 @@
 -- What the operators say of two reals: just what IEEE 754's comparisons say.
 use mathlib.Core.Path.{_≡_, _∙_, refl, sym, ap}
 use mathlib.Core.Bool.{Bool, true, false, not, _&&_, _||_, Bool·beq}
-use Prim.Native.Nat.{ℕ, _+_, _*_, _<_, _≤_}
+use Prim.Native.Nat.{ℕ, _+_, _*_}
 use native.Mathlib.Omega.{arith}
-use lib.Dec.{eqb, ltb}
-use lib.IntN.{ℤ, pos}
+use lib.Dec.{eqb}
+use lib.IntN.{pos}
 use lib.Ieee.{Float, nan, inf, fin, lt, eq, le, ne, below, level, up, down}
 use borrow.Author.Tests.{ltb-true, eqb-true, le-ltb, eq-eqb, ne-eqb}
 use Rattle.base.specs.Pick.{pick}
 use Rattle.base.specs.Order.{holds}
-use Rattle.base.specs.declared.order.Order.{Order}
 use Rattle.base.specs.declared.order.Order.the-variants.{Before, Same, After, Undecided}
 use Rattle.base.specs.declared.order.Operator.{Operator}
 use Rattle.base.specs.declared.order.Operator.the-variants.{Equal, Unequal, Less, AtMost, Greater, AtLeast}

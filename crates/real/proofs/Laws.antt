@@ -4,8 +4,8 @@ use mathlib.Core.Bool.{Bool, true, false}
 use Prim.Native.Nat.{ℕ, zero, suc, _+_, _-_, _^_, _<_, _≤_}
 use native.Mathlib.Omega.{arith}
 use lib.Dec.{ltb}
-use lib.IntN.{ℤ, pos, negsuc, negℤ}
-use lib.Ieee.{Float, binary64, ofInt, mul, div}
+use lib.IntN.{ℤ, pos, negℤ}
+use lib.Ieee.{binary64, ofInt, div}
 use borrow.Author.Tests.{ltb-true, lt-ltb, le-ltb, le-leb}
 use Rattle.real.specs.Real.{powerOfTen, magnitude, realWith, realOf, inRange, exponentOf}
 use Rattle.real.specs.Scale.{scaleOf}

@@ -1,8 +1,8 @@
 -- Real literals. 01 "Query text": "A real literal is kept with its sign, digits, exponent and value: its digits without the point make D below 10^15,
 -- its exponent less the digits after the point makes e from −22 to 22, and the value is D × 10^e by one multiplication or one division of exactly held
 -- real64 numbers."
-use Prim.Native.Nat.{ℕ, zero, suc, _^_}
-use mathlib.Core.Bool.{Bool, true, false, _&&_}
+use Prim.Native.Nat.{ℕ, suc, _^_}
+use mathlib.Core.Bool.{Bool, _&&_}
 use lib.IntN.{ℤ, pos, negsuc, negℤ, _-ℤ_}
 use lib.Signed.{leZ}
 use lib.Dec.{ltb}

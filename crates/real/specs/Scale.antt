@@ -1,5 +1,5 @@
 -- An exponent from −22 to 22 as the index of a power of ten and a direction: what the table of powers is asked for.
-use Prim.Native.Nat.{ℕ, suc}
+use Prim.Native.Nat.{suc}
 use lib.Dec.{leb}
 use lib.IntN.{ℤ, pos, negsuc}
 use Rattle.base.specs.Pick.{pick}

@@ -1,7 +1,7 @@
 -- A record's kind and its body's length are below 65,536: they are numbers of two bytes.
 use Prim.Native.Nat.{ℕ, _+_, _<_}
 use mathlib.Core.List.{List}
-use mathlib.Core.Path.{_≡_, refl}
+use mathlib.Core.Path.{_≡_}
 use native.Mathlib.Omega.{arith}
 use Rattle.base.proofs.ByteLists.{Bytes, part-below}
 use Rattle.record.specs.declared.read.RecordAt.the-variants.{Whole}

@@ -1,7 +1,7 @@
 -- 01 "Steps": "A comparison that is judged counts 1"; "The rest of an AND chain is skipped after a false part, the rest of an OR after a true one." Over the tree of
 -- query_text/specs/Tree, which binds AND before OR in a group and between groups; `v` is what a comparison comes to, `n` the steps that it counts if it is judged.
 use Prim.Native.Nat.{ℕ, _+_}
-use mathlib.Core.Bool.{Bool, true, false}
+use mathlib.Core.Bool.{Bool}
 use Rattle.base.specs.Pick.{pick}
 use Rattle.syntax.specs.declared.comparison.Comparison.{Comparison}
 use Rattle.query_text.specs.Query.{Comparisons, only, more}

@@ -2,7 +2,7 @@
 use Prim.Native.Nat.{ℕ, zero, suc, _+_, _-_, _≤_, _<_}
 use mathlib.Core.List.{List, [], _∷_}
 use mathlib.Core.Bool.{Bool, true, false}
-use mathlib.Core.Path.{_≡_, refl, ap, sym, subst, _∙_}
+use mathlib.Core.Path.{_≡_, refl, ap, sym, _∙_}
 use native.Mathlib.Omega.{arith}
 use lib.ListN.{length}
 use lib.Dec.{eqb}
@@ -11,7 +11,7 @@ use Rattle.base.specs.Pick.{pick}
 use Rattle.base.proofs.Walk.{from-at}
 use Rattle.unicode.specs.WellFormed.{sequenceAt}
 use Rattle.unicode.specs.Scalar.{isScalarValue, scalarAt}
-use Rattle.unicode.specs.Characters.{characterStep, charactersFrom, characters}
+use Rattle.unicode.specs.Characters.{characterStep, charactersFrom}
 use Rattle.unicode.proofs.WellFormed.{sequence-fits, past-end}
 use Rattle.unicode.proofs.ScalarValue.{scalar-at-value}
 

@@ -1,17 +1,17 @@
 -- What is encoded reads back: a scalar value's sequence is one well-formed sequence, with that value. Assumes nothing.
 use Prim.Native.Nat.{ℕ, _+_, _-_, _*_, _/_, _%_, _≤_, _<_}
 use mathlib.Core.List.{List, [], _∷_, _++_}
-use mathlib.Core.Bool.{Bool, true, false, _&&_, _||_, false≢true}
-use mathlib.Core.Path.{_≡_, refl, ap, sym, _∙_}
+use mathlib.Core.Bool.{Bool, true, false, _&&_, _||_}
+use mathlib.Core.Path.{_≡_, refl, sym, _∙_}
 use native.Mathlib.Omega.{arith}
-use lib.ListN.{length, getD, drop}
+use lib.ListN.{length}
 use lib.Dec.{ltb, leb, eqb}
-use borrow.Author.Tests.{eqb-true, eqb-false, ltb-true, ltb-false, leb-true, lt-ltb, le-ltb, le-leb}
+use borrow.Author.Tests.{eqb-true, ltb-true, ltb-false, leb-true, le-leb}
 use Rattle.base.specs.Pick.{pick}
 use Rattle.base.specs.Range.{within}
 use Rattle.base.proofs.Says.{and-both}
 use Rattle.unicode.specs.WellFormed.{inRange, fits, sequenceAt}
-use Rattle.unicode.specs.Lead.{leadLength, secondLow, secondHigh}
+use Rattle.unicode.specs.Lead.{secondLow, secondHigh}
 use Rattle.unicode.specs.Scalar.{isScalarValue, scalarOf, twoBytes, threeBytes, fourBytes, encode}
 use Rattle.unicode.proofs.WellFormed.{continuations, single, by-second, low-by, high-by, lead-ascii, lead-two, lead-three, lead-four}
 

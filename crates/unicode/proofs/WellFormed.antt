@@ -5,12 +5,12 @@ use mathlib.Core.Bool.{Bool, true, false, not, _&&_, false≢true}
 use mathlib.Core.Path.{_≡_, refl, ap, sym, _∙_}
 use native.Mathlib.Omega.{arith}
 use lib.ListN.{length, getD, take, drop, length-drop}
-use lib.Dec.{ltb, leb, eqb}
+use lib.Dec.{ltb, eqb}
 use borrow.Author.Tests.{ltb-true, eqb-false, lt-ltb, le-ltb, eq-eqb, ne-eqb, not-true, not-false}
 use Rattle.base.specs.Pick.{pick}
 use Rattle.base.specs.Range.{within}
 use Rattle.base.proofs.Walk.{from-at}
-use Rattle.base.proofs.Lists.{left-next, at-next, at-end}
+use Rattle.base.proofs.Lists.{left-next, at-end}
 use Rattle.base.proofs.Says.{and-both}
 use Rattle.base.proofs.Tabulate.{tab, tab-at}
 use Rattle.unicode.specs.declared.text.Utf8.{Utf8}

@@ -1,7 +1,7 @@
 -- What Table 3-7 says of a first byte by itself: the row whose first range holds it.
 use Prim.Native.Nat.{ℕ}
 use mathlib.Core.List.{List, [], _∷_}
-use mathlib.Core.Bool.{Bool, true, false}
+use mathlib.Core.Bool.{Bool, false}
 use lib.ListN.{length, getD}
 use Rattle.base.specs.Pick.{pick}
 use Rattle.unicode.specs.WellFormed.{Range, _‥_, continuation, table, inRange}

@@ -1,5 +1,5 @@
 -- What 01 "Meaning" says of every comparison: `<>` is the reverse of `=`; order with NULL is false; `=` with NULL holds of two NULLs only.
-use mathlib.Core.Bool.{Bool, true, false, not}
+use mathlib.Core.Bool.{true, false, not}
 use mathlib.Core.Path.{_≡_, refl, sym}
 use mathlib.Core.Option.{Option, none, some}
 use Rattle.base.specs.declared.order.Operator.{Operator}

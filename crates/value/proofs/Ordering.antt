@@ -3,18 +3,16 @@ use Prim.Native.Nat.{ℕ}
 use mathlib.Core.List.{List}
 use mathlib.Core.Bool.{Bool, true, false, not}
 use mathlib.Core.Path.{_≡_, refl, sym, ap, _∙_}
-use mathlib.Core.Option.{Option, none, some}
-use lib.Dec.{eqb}
+use mathlib.Core.Option.{none, some}
 use borrow.Author.Tests.{not-true, not-false}
 use Rattle.base.proofs.Says.{apart}
 use Rattle.base.specs.Pick.{pick}
 use Rattle.base.specs.Part.{part, sameBytes}
 use Rattle.base.specs.Order.{holds}
 use Rattle.base.specs.declared.order.Order.{Order}
-use Rattle.base.specs.declared.order.Order.the-variants.{Before, Same, After, Undecided}
+use Rattle.base.specs.declared.order.Order.the-variants.{Undecided}
 use Rattle.base.specs.declared.order.Operator.{Operator}
-use Rattle.base.specs.declared.order.Operator.the-variants.{Equal, Unequal, Less, AtMost, Greater, AtLeast}
-use Rattle.instance.specs.Value.{ScalarValue, truth, whole, real, text, octets, datetime, reference}
+use Rattle.instance.specs.Value.{ScalarValue, truth, whole, real, datetime}
 use Rattle.value.specs.declared.item.Sort.{Sort}
 use Rattle.value.specs.declared.item.Sort.the-variants.{Text, Octets, Reference}
 use Rattle.value.specs.declared.item.Sequence as sequence
@@ -22,7 +20,7 @@ use Rattle.value.specs.declared.item.Item.{Item}
 use Rattle.value.specs.declared.item.Item.the-variants as item
 use Rattle.value.specs.Unit.{unitsFrom}
 use Rattle.value.specs.Compare.{equality, orderOfScalars, orderOf, nullHolds, compares}
-use Rattle.value.specs.Item.{sortNumber, sameSort, listed, sequenceValue, itemValue, isNullItem, Against}
+use Rattle.value.specs.Item.{sameSort, listed, sequenceValue, itemValue, isNullItem, Against}
 
 -- a value that is no sequence
 pub data Plain : ScalarValue → Type 0 where

@@ -1,17 +1,15 @@
 -- One law for each exit of `src/read.rt`; a scalar property's value in the environment.
-use Prim.Native.Nat.{ℕ, zero, suc, _+_, _-_, _≤_, _<_}
-use mathlib.Core.List.{List, [], _∷_}
+use Prim.Native.Nat.{ℕ, suc, _+_, _-_}
+use mathlib.Core.List.{List}
 use mathlib.Core.Bool.{Bool, true, false}
-use mathlib.Core.Path.{_≡_, refl, sym, ap, _∙_}
-use mathlib.Core.Option.{Option, none, some}
+use mathlib.Core.Path.{_≡_, refl, sym, _∙_}
+use mathlib.Core.Option.{none, some}
 use native.Mathlib.Omega.{arith}
-use lib.ListN.{length, getD}
 use lib.Dec.{eqb}
-use borrow.Author.Tests.{eq-eqb, ne-eqb}
+use borrow.Author.Tests.{ne-eqb}
 use Rattle.base.specs.Pick.{pick}
-use Rattle.base.specs.Part.{part, byteAt}
-use Rattle.base.specs.LittleEndian.{wholeOf}
-use Rattle.record.specs.Record.{recordAt, Records, item, broken, ended, records}
+use Rattle.base.specs.Part.{part}
+use Rattle.record.specs.Record.{recordAt, records}
 use Rattle.record.specs.Kind.{kindOf}
 use Rattle.record.specs.declared.read.RecordAt.{RecordAt}
 use Rattle.record.specs.declared.read.RecordAt.the-variants.{Whole, Broken, End}
@@ -19,7 +17,7 @@ use Rattle.record.specs.declared.kind.Kind.the-variants.{Scalar}
 use Rattle.record.specs.declared.kind.ValueType.{ValueType}
 use Rattle.record.proofs.Records.{records-whole, records-broken, records-end}
 use Rattle.instance.specs.Conforms.{count}
-use Rattle.instance.specs.Value.{ScalarValue, scalarIn, elementIn, elements, valueAt}
+use Rattle.instance.specs.Value.{ScalarValue, scalarIn, elementIn, valueAt}
 use Rattle.value.specs.declared.item.Item.{Item}
 use Rattle.value.specs.declared.item.Item.the-variants as it
 use Rattle.value.specs.Item.{itemValue}

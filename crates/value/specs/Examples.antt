@@ -3,14 +3,12 @@ use Prim.Native.Nat.{ℕ}
 use mathlib.Core.List.{List, [], _∷_}
 use mathlib.Core.Bool.{Bool, true, false}
 use mathlib.Core.Option.{Option, none, some}
-use lib.IntN.{ℤ, pos, negsuc}
 use Rattle.base.specs.Ascii.{bytes}
 use Rattle.base.specs.declared.order.Operator.{Operator}
-use Rattle.base.specs.declared.order.Operator.the-variants.{Equal, Unequal, Less, AtMost, Greater, AtLeast}
+use Rattle.base.specs.declared.order.Operator.the-variants.{Equal, Unequal, Less, AtMost, Greater}
 use Rattle.record.specs.declared.kind.Family.{Family}
 use Rattle.record.specs.declared.kind.Family.the-variants as family
-use Rattle.record.specs.declared.kind.ValueType.{ValueType}
-use Rattle.instance.specs.Value.{ScalarValue, truth, text, reference, scalarIn}
+use Rattle.instance.specs.Value.{ScalarValue, truth, reference, scalarIn}
 use Rattle.value.specs.Compare.{compares}
 
 pub record Comparison : Type 0 where

@@ -14,7 +14,7 @@ use Rattle.base.proofs.Says.{and-both, and-false}
 use Rattle.base.proofs.Decimal.{decimal-digits}
 use Rattle.datetime.specs.Text.{shaped, timeIn, signIn}
 use Rattle.datetime.specs.Fields.{isTime}
-use Rattle.datetime.specs.Datetime.{isTimestamp, isInterval, datetimeOf}
+use Rattle.datetime.specs.Datetime.{datetimeOf}
 use Rattle.datetime.specs.declared.Datetime.{Datetime}
 use Rattle.datetime.specs.declared.Datetime.the-variants.{Malformed}
 use Rattle.string_literal.specs.declared.InString.{InString}

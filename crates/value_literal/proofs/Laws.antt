@@ -1,14 +1,14 @@
 -- One law for each exit of `src/`.
 use Prim.Native.Nat.{ℕ, _+_, _-_, _≤_, _<_}
-use mathlib.Core.List.{List, [], _∷_}
+use mathlib.Core.List.{List, []}
 use mathlib.Core.Bool.{Bool, true, false}
 use mathlib.Core.Path.{_≡_, refl, sym, ap, _∙_}
-use mathlib.Core.Option.{Option, none, some}
+use mathlib.Core.Option.{some}
 use native.Mathlib.Omega.{arith}
-use lib.ListN.{length, take, drop, drop-of-length-le}
+use lib.ListN.{length, take, drop-of-length-le}
 use lib.Seq.{take-all, take-nil}
 use lib.Dec.{ltb}
-use borrow.Author.Tests.{lt-ltb, le-ltb, ltb-true, ltb-false}
+use borrow.Author.Tests.{ltb-false}
 use Rattle.base.specs.Pick.{pick}
 use Rattle.base.specs.Part.{part}
 use Rattle.string_literal.specs.Text.{textAt, charactersOf, bytesOf}
@@ -25,7 +25,7 @@ use Rattle.value.specs.Unit.{hexPairs, utf8After, unitsFrom}
 use Rattle.value.specs.Item.{listed, sequenceOf, itemValue}
 use Rattle.value.proofs.Laws.{utf8-whole}
 use Rattle.instance.specs.Value as value
-use Rattle.value_literal.specs.LiteralValue.{textOf, afterQuote, octetsOf, textValue, literalValue}
+use Rattle.value_literal.specs.LiteralValue.{textOf, afterQuote, octetsOf}
 
 -- a whole slice is a part of itself
 whole-part : (q : List ℕ) → part q 0 (length q) ≡ q

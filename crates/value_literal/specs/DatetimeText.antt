@@ -1,8 +1,8 @@
 -- Characters that may be a datetime's, copied into a buffer: it starts with them, or they are no datetime.
 use mathlib.Core.Path.{_≡_}
 use mathlib.Core.List.{List}
-use Prim.Native.Nat.{ℕ, _≤_}
-use lib.ListN.{length, take}
+use Prim.Native.Nat.{ℕ}
+use lib.ListN.{take}
 use Rattle.datetime.specs.Datetime.{datetimeOf}
 use Rattle.datetime.specs.declared.Datetime.the-variants.{Malformed}
 use Rattle.value_literal.specs.declared.datetime_text.Copy.{Copy}

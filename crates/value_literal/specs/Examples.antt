@@ -1,16 +1,16 @@
 -- The values of some literals.
 use Prim.Native.Nat.{ℕ}
 use mathlib.Core.List.{List, [], _∷_}
-use mathlib.Core.Bool.{Bool, true, false}
+use mathlib.Core.Bool.{true}
 use mathlib.Core.Option.{Option, none, some}
-use lib.IntN.{pos, negsuc}
+use lib.IntN.{negsuc}
 use Rattle.base.specs.Ascii.{bytes}
-use Rattle.base.specs.declared.integer.Whole.the-variants.{Pos, NegSuc}
+use Rattle.base.specs.declared.integer.Whole.the-variants.{NegSuc}
 use Rattle.record.specs.declared.kind.Family.{Family}
 use Rattle.record.specs.declared.kind.Family.the-variants as family
 use Rattle.datetime.specs.Datetime.{datetimeOf}
 use Rattle.literal.specs.declared.Literal.{Literal}
-use Rattle.literal.specs.declared.Literal.the-variants.{Truth, Integer, Real, Text, Octets, Null}
+use Rattle.literal.specs.declared.Literal.the-variants.{Truth, Integer, Text, Octets, Null}
 use Rattle.instance.specs.Value.{ScalarValue, truth, whole, text, octets, datetime, reference}
 use Rattle.value_literal.specs.LiteralValue.{literalValue}
 

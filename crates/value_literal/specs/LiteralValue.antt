@@ -2,7 +2,6 @@
 -- "Kinds": "Text fits 6, 7, 9, 10"; "Meaning": "octets and references byte by byte after unescaping".
 use Prim.Native.Nat.{ℕ, _+_, _-_}
 use mathlib.Core.List.{List}
-use mathlib.Core.Bool.{Bool}
 use mathlib.Core.Option.{Option, none, some}
 use lib.ListN.{length}
 use lib.Dec.{ltb}

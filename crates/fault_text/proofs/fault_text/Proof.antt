@@ -2,9 +2,6 @@ use Rattle.fault_text.proofs.Laws as law
 use borrow.Author.Needs.{needs}
 use Rattle.fault_text.proofs.fault_text.Statement.{statement}
 use Rattle.fault_text.proofs.fault_text.Tie as tie
-use Rattle.fault_text.proofs.fault_text.Reads as reads
-use Rattle.fault_text.proofs.fault_text.Lts as lts
-use Rattle.fault_text.proofs.shown_of.Reads as shown-of-reads
 
 -- src/lib.rt:50:11
 shown-of-requires : tie.Need-shown-of-requires

@@ -2,11 +2,6 @@ use Rattle.fault_text.proofs.Laws as law
 use borrow.Author.Needs.{needs}
 use Rattle.fault_text.proofs.shown_of.Statement.{statement}
 use Rattle.fault_text.proofs.shown_of.Tie as tie
-use Rattle.fault_text.proofs.shown_of.Reads as reads
-use Rattle.fault_text.proofs.shown_of.Lts as lts
-use Rattle.fault_text.proofs.shows_query.Reads as shows-query-reads
-use Rattle.fault_text.proofs.shows_table.Reads as shows-table-reads
-use Rattle.fault_text.proofs.unless_past.Reads as unless-past-reads
 
 -- src/lib.rt:37:8
 shows-table-requires : tie.Need-shows-table-requires

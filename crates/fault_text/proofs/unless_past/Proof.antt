@@ -1,9 +1,6 @@
-use borrow.Author.Needs.{needs}
 use Rattle.fault_text.proofs.Laws as law
 use Rattle.fault_text.proofs.unless_past.Statement.{statement}
 use Rattle.fault_text.proofs.unless_past.Tie as tie
-use Rattle.fault_text.proofs.unless_past.Reads as reads
-use Rattle.fault_text.proofs.unless_past.Lts as lts
 
 -- src/lib.rt:28:9
 returns : tie.Need-returns

@@ -2,10 +2,6 @@ use lib.ListN.{length-take}
 use borrow.Author.Needs.{needs}
 use Rattle.fql.proofs.print_output.Statement.{statement}
 use Rattle.fql.proofs.print_output.Tie as tie
-use Rattle.fql.proofs.print_output.Reads as reads
-use Rattle.fql.proofs.print_output.Lts as lts
-use Rattle.io.proofs.write_all.Reads as write-all-reads
-use Rattle.report.proofs.output.write_output.Reads as write-output-reads
 
 -- src/main.rt:41:9
 write-output-requires : tie.Need-write-output-requires

@@ -4,10 +4,6 @@ use mathlib.Core.Path.{_≡_}
 use lib.ListN.{length, length-take}
 use Rattle.fql.proofs.read_all.Statement.{statement}
 use Rattle.fql.proofs.read_all.Tie as tie
-use Rattle.fql.proofs.read_all.Reads as reads
-use Rattle.fql.proofs.read_all.Lts as lts
-use Rattle.io.proofs.count.Reads as count-reads
-use Rattle.libc.proofs.read.Reads as read-reads
 
 abbrev Inv-loop : tie.InvT-loop
 Inv-loop fd buf₀ done₀ buf done = (done ≤ length buf) × (length buf ≡ length buf₀)

@@ -2,10 +2,6 @@ use Rattle.fql_export.proofs.Laws as law
 use borrow.Author.Needs.{needs}
 use Rattle.fql_export.proofs.fql_check.Statement.{statement}
 use Rattle.fql_export.proofs.fql_check.Tie as tie
-use Rattle.fql_export.proofs.fql_check.Reads as reads
-use Rattle.fql_export.proofs.fql_check.Lts as lts
-use Rattle.filter.proofs.check.check.Reads as check-reads
-use Rattle.fql_export.proofs.refusal_of.Reads as refusal-of-reads
 
 -- src/lib.rt:78:16
 check-requires : tie.Need-check-requires

@@ -2,10 +2,6 @@ use Rattle.fql_export.proofs.Laws as law
 use borrow.Author.Needs.{needs}
 use Rattle.fql_export.proofs.fql_evaluate.Statement.{statement}
 use Rattle.fql_export.proofs.fql_evaluate.Tie as tie
-use Rattle.fql_export.proofs.fql_evaluate.Reads as reads
-use Rattle.fql_export.proofs.fql_evaluate.Lts as lts
-use Rattle.filter.proofs.evaluate.evaluate.Reads as evaluate-reads
-use Rattle.fql_export.proofs.answer_of.Reads as answer-of-reads
 
 -- src/lib.rt:85:15
 evaluate-requires : tie.Need-evaluate-requires

@@ -3,9 +3,6 @@ use Rattle.fault_text.proofs.Laws as shown
 use borrow.Author.Needs.{needs}
 use Rattle.fql_export.proofs.fql_fault_text.Statement.{statement}
 use Rattle.fql_export.proofs.fql_fault_text.Tie as tie
-use Rattle.fql_export.proofs.fql_fault_text.Reads as reads
-use Rattle.fql_export.proofs.fql_fault_text.Lts as lts
-use Rattle.fault_text.proofs.shown_of.Reads as shown-of-reads
 
 -- src/lib.rt:163:11
 shown-of-requires : tie.Need-shown-of-requires

@@ -2,10 +2,6 @@ use Rattle.fql_export.proofs.Laws as law
 use borrow.Author.Needs.{needs}
 use Rattle.fql_export.proofs.fql_mark.Statement.{statement}
 use Rattle.fql_export.proofs.fql_mark.Tie as tie
-use Rattle.fql_export.proofs.fql_mark.Reads as reads
-use Rattle.fql_export.proofs.fql_mark.Lts as lts
-use Rattle.fql_export.proofs.totals_of.Reads as totals-of-reads
-use Rattle.mark.proofs.mark.mark.Reads as mark-reads
 
 -- src/lib.rt:150:15
 mark-requires : tie.Need-mark-requires

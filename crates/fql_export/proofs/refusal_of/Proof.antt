@@ -2,9 +2,6 @@ use Rattle.fql_export.proofs.Laws as law
 use borrow.Author.Needs.{needs}
 use Rattle.fql_export.proofs.refusal_of.Statement.{statement}
 use Rattle.fql_export.proofs.refusal_of.Tie as tie
-use Rattle.fql_export.proofs.refusal_of.Reads as reads
-use Rattle.fql_export.proofs.refusal_of.Lts as lts
-use Rattle.filter.proofs.refusal.number_of.Reads as number-of-reads
 
 -- src/lib.rt:32:30
 enum-told : tie.Need-enum-told

@@ -2,9 +2,6 @@ use Rattle.fql_export.proofs.Laws as law
 use borrow.Author.Needs.{needs}
 use Rattle.fql_export.proofs.totals_of.Statement.{statement}
 use Rattle.fql_export.proofs.totals_of.Tie as tie
-use Rattle.fql_export.proofs.totals_of.Reads as reads
-use Rattle.fql_export.proofs.totals_of.Lts as lts
-use Rattle.mark.proofs.refusal.number_of.Reads as number-of-reads
 
 -- src/lib.rt:103:24
 enum-known-m : tie.Need-enum-known-m

@@ -2,11 +2,6 @@ use Rattle.judge.proofs.Judging as law
 use borrow.Author.Needs.{needs}
 use Rattle.judge.proofs.judge.Statement.{statement}
 use Rattle.judge.proofs.judge.Tie as tie
-use Rattle.judge.proofs.judge.Reads as reads
-use Rattle.judge.proofs.judge.Lts as lts
-use Rattle.instance.proofs.start.start_of.Reads as start-of-reads
-use Rattle.judge.proofs.judge_kind.Reads as judge-kind-reads
-use Rattle.operand.proofs.name.find_named.Reads as find-named-reads
 
 -- src/lib.rt:109:11
 find-named-requires : tie.Need-find-named-requires

@@ -2,13 +2,6 @@ use Rattle.judge.proofs.Judging as law
 use borrow.Author.Needs.{needs}
 use Rattle.judge.proofs.judge_kind.Statement.{statement}
 use Rattle.judge.proofs.judge_kind.Tie as tie
-use Rattle.judge.proofs.judge_kind.Reads as reads
-use Rattle.judge.proofs.judge_kind.Lts as lts
-use Rattle.judge.proofs.judge_right.Reads as judge-right-reads
-use Rattle.judge.proofs.left.left_array.Reads as left-array-reads
-use Rattle.judge.proofs.left.left_scalar.Reads as left-scalar-reads
-use Rattle.place.proofs.body_at.Reads as body-at-reads
-use Rattle.record.proofs.kind.kind_of.Reads as kind-of-reads
 
 -- src/lib.rt:88:11
 kind-of-requires : tie.Need-kind-of-requires

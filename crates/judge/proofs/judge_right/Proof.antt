@@ -2,14 +2,6 @@ use Rattle.judge.proofs.Judging as law
 use borrow.Author.Needs.{needs}
 use Rattle.judge.proofs.judge_right.Statement.{statement}
 use Rattle.judge.proofs.judge_right.Tie as tie
-use Rattle.judge.proofs.judge_right.Reads as reads
-use Rattle.judge.proofs.judge_right.Lts as lts
-use Rattle.judge.proofs.meet.meet_elements.Reads as meet-elements-reads
-use Rattle.judge.proofs.meet.meet_one.Reads as meet-one-reads
-use Rattle.judge.proofs.meet.meet_pattern.Reads as meet-pattern-reads
-use Rattle.judge.proofs.property.meet_property.Reads as meet-property-reads
-use Rattle.judge.proofs.right.literal_at.Reads as literal-at-reads
-use Rattle.operand.proofs.literal_read.is_null_literal.Reads as is-null-literal-reads
 
 -- src/lib.rt:56:28
 enum-known-right : tie.Need-enum-known-right

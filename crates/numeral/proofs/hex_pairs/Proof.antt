@@ -1,4 +1,3 @@
-use native.Mathlib.Omega.{arith}
 use Rattle.numeral.specs.Numeral.{hexPairs}
 use borrow.Author.Needs.{needs}
 use Rattle.numeral.proofs.hex_pairs.Statement.{statement}

@@ -1,5 +1,4 @@
 use borrow.Author.Tests.{lt-ltb, le-ltb}
-use native.Mathlib.Omega.{arith}
 use Rattle.numeral.proofs.moved_to.Statement.{statement}
 use Rattle.numeral.proofs.moved_to.Tie as tie
 

@@ -2,10 +2,6 @@ use Rattle.short_circuit.proofs.Laws.{step-last, step-with}
 use borrow.Author.Needs.{needs}
 use Rattle.short_circuit.proofs.advance.Statement.{statement}
 use Rattle.short_circuit.proofs.advance.Tie as tie
-use Rattle.short_circuit.proofs.advance.Reads as reads
-use Rattle.short_circuit.proofs.advance.Lts as lts
-use Rattle.short_circuit.proofs.join_inner.Reads as join-inner-reads
-use Rattle.short_circuit.proofs.join_outer.Reads as join-outer-reads
 
 enum-told : tie.Need-enum-told
 enum-told c = search needs

@@ -2,8 +2,6 @@ use mathlib.Core.Path.{refl}
 use Rattle.query_text.specs.Tree.{total}
 use Rattle.short_circuit.proofs.finish.Statement.{statement}
 use Rattle.short_circuit.proofs.finish.Tie as tie
-use Rattle.short_circuit.proofs.finish.Reads as reads
-use Rattle.short_circuit.proofs.finish.Lts as lts
 
 returns : tie.Need-returns
 unfolding total

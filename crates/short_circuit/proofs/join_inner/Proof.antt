@@ -2,8 +2,6 @@ use Rattle.short_circuit.proofs.Laws.{inner-and, inner-or}
 use borrow.Author.Needs.{needs}
 use Rattle.short_circuit.proofs.join_inner.Statement.{statement}
 use Rattle.short_circuit.proofs.join_inner.Tie as tie
-use Rattle.short_circuit.proofs.join_inner.Reads as reads
-use Rattle.short_circuit.proofs.join_inner.Lts as lts
 
 enum-told : tie.Need-enum-told
 enum-told c = search needs

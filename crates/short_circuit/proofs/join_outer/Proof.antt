@@ -2,9 +2,6 @@ use Rattle.short_circuit.proofs.Laws.{outer-and, outer-or}
 use borrow.Author.Needs.{needs}
 use Rattle.short_circuit.proofs.join_outer.Statement.{statement}
 use Rattle.short_circuit.proofs.join_outer.Tie as tie
-use Rattle.short_circuit.proofs.join_outer.Reads as reads
-use Rattle.short_circuit.proofs.join_outer.Lts as lts
-use Rattle.short_circuit.proofs.finish.Reads as finish-reads
 
 enum-told : tie.Need-enum-told
 enum-told c = search needs

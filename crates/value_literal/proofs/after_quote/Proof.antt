@@ -2,8 +2,6 @@ use borrow.Author.Tests.{lt-ltb, le-ltb}
 use borrow.Author.Needs.{needs}
 use Rattle.value_literal.proofs.after_quote.Statement.{statement}
 use Rattle.value_literal.proofs.after_quote.Tie as tie
-use Rattle.value_literal.proofs.after_quote.Reads as reads
-use Rattle.value_literal.proofs.after_quote.Lts as lts
 
 -- src/lib.rt:27:16
 add-result : tie.Need-add-result

@@ -4,10 +4,6 @@ use Rattle.value_literal.specs.LiteralValue.{literalValue}
 use borrow.Author.Needs.{needs}
 use Rattle.value_literal.proofs.literal_item.Statement.{statement}
 use Rattle.value_literal.proofs.literal_item.Tie as tie
-use Rattle.value_literal.proofs.literal_item.Reads as reads
-use Rattle.value_literal.proofs.literal_item.Lts as lts
-use Rattle.value_literal.proofs.octets_item.Reads as octets-item-reads
-use Rattle.value_literal.proofs.text_item.Reads as text-item-reads
 
 -- src/lib.rt:92:24
 enum-known-l : tie.Need-enum-known-l

@@ -2,9 +2,6 @@ use Rattle.value_literal.proofs.Laws as law
 use borrow.Author.Needs.{needs}
 use Rattle.value_literal.proofs.octets_item.Statement.{statement}
 use Rattle.value_literal.proofs.octets_item.Tie as tie
-use Rattle.value_literal.proofs.octets_item.Reads as reads
-use Rattle.value_literal.proofs.octets_item.Lts as lts
-use Rattle.value_literal.proofs.hex_octets.Reads as hex-octets-reads
 
 -- src/lib.rt:63:9
 hex-octets-requires : tie.Need-hex-octets-requires

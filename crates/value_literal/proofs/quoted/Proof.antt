@@ -2,9 +2,6 @@ use Rattle.value_literal.proofs.Laws as law
 use borrow.Author.Needs.{needs}
 use Rattle.value_literal.proofs.quoted.Statement.{statement}
 use Rattle.value_literal.proofs.quoted.Tie as tie
-use Rattle.value_literal.proofs.quoted.Reads as reads
-use Rattle.value_literal.proofs.quoted.Lts as lts
-use Rattle.value_literal.proofs.after_quote.Reads as after-quote-reads
 
 -- src/lib.rt:36:9
 after-quote-requires : tie.Need-after-quote-requires

@@ -4,11 +4,6 @@ use mathlib.Core.Path.{_∙_}
 use borrow.Author.Needs.{needs}
 use Rattle.value_literal.proofs.text_item.Statement.{statement}
 use Rattle.value_literal.proofs.text_item.Tie as tie
-use Rattle.value_literal.proofs.text_item.Reads as reads
-use Rattle.value_literal.proofs.text_item.Lts as lts
-use Rattle.value_literal.proofs.after_quote.Reads as after-quote-reads
-use Rattle.value_literal.proofs.datetime_text.datetime_in.Reads as datetime-in-reads
-use Rattle.value_literal.proofs.quoted.Reads as quoted-reads
 
 -- src/lib.rt:76:35
 enum-told : tie.Need-enum-told

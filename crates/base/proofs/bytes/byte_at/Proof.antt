@@ -2,8 +2,6 @@ use Rattle.base.proofs.Lists.{byte-past}
 use borrow.Author.Needs.{needs}
 use Rattle.base.proofs.bytes.byte_at.Statement.{statement}
 use Rattle.base.proofs.bytes.byte_at.Tie as tie
-use Rattle.base.proofs.bytes.byte_at.Reads as reads
-use Rattle.base.proofs.bytes.byte_at.Lts as lts
 
 -- src/bytes.rt:11:16
 shared-slice-read-result : tie.Need-shared-slice-read-result

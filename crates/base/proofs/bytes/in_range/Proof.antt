@@ -1,10 +1,7 @@
-use borrow.Author.Needs.{needs}
 use Rattle.base.specs.Range.{within}
 use borrow.Author.Tests.{le-leb, lt-leb}
 use Rattle.base.proofs.bytes.in_range.Statement.{statement}
 use Rattle.base.proofs.bytes.in_range.Tie as tie
-use Rattle.base.proofs.bytes.in_range.Reads as reads
-use Rattle.base.proofs.bytes.in_range.Lts as lts
 
 -- src/bytes.rt:34:9
 returns : tie.Need-returns

@@ -2,8 +2,6 @@ use Rattle.base.proofs.Lists.{part-past, part-rest, part-whole}
 use borrow.Author.Needs.{needs}
 use Rattle.base.proofs.bytes.piece.Statement.{statement}
 use Rattle.base.proofs.bytes.piece.Tie as tie
-use Rattle.base.proofs.bytes.piece.Reads as reads
-use Rattle.base.proofs.bytes.piece.Lts as lts
 
 -- src/bytes.rt:21:9
 slice-aggregate-result : tie.Need-slice-aggregate-result

@@ -3,14 +3,10 @@ use mathlib.Core.Path.{_≡_, refl, sym}
 use mathlib.Core.Bool.{true}
 use Prim.Native.Nat.{_-_, _≤_}
 use native.Mathlib.Omega.{arith}
-use lib.ListN.{length}
 use Rattle.base.specs.Digit.{allDigits}
 use Rattle.base.proofs.Digits.{digits-next, digits-spoiled}
 use Rattle.base.proofs.digit.all_digits.Statement.{statement}
 use Rattle.base.proofs.digit.all_digits.Tie as tie
-use Rattle.base.proofs.digit.all_digits.Reads as reads
-use Rattle.base.proofs.digit.all_digits.Lts as lts
-use Rattle.base.proofs.digit.digit_of.Reads as digit-of-reads
 
 abbrev Inv-loop : tie.InvT-loop
 Inv-loop base s at n i₀ i = (i ≤ n) × (allDigits base s at i ≡ true)

@@ -1,14 +1,10 @@
 use native.Mathlib.Omega.{arith}
-use mathlib.Core.Path.{_≡_, sym, _∙_}
+use mathlib.Core.Path.{sym, _∙_}
 use Rattle.base.proofs.Digits.{within-low, within-high}
 use Rattle.base.specs.Digit.{digitOf}
 use borrow.Author.Needs.{needs}
 use Rattle.base.proofs.digit.digit_of.Statement.{statement}
 use Rattle.base.proofs.digit.digit_of.Tie as tie
-use Rattle.base.proofs.digit.digit_of.Reads as reads
-use Rattle.base.proofs.digit.digit_of.Lts as lts
-use Rattle.base.proofs.bytes.in_range.Reads as in-range-reads
-use Rattle.base.proofs.bytes.widen.Reads as widen-reads
 
 -- src/digit.rt:24:9
 widen-requires : tie.Need-widen-requires

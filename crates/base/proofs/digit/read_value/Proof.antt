@@ -1,15 +1,11 @@
 use borrow.Author.Needs.{needs}
-use Prim.Native.Nat.{_≤_, _-_, _*_, _+_}
-use mathlib.Core.Path.{_≡_, refl, sym, _∙_}
+use Prim.Native.Nat.{_≤_, _-_}
+use mathlib.Core.Path.{_≡_, refl}
 use native.Mathlib.Omega.{arith}
-use lib.ListN.{length}
 use Rattle.base.specs.Digit.{valueOf}
 use Rattle.base.proofs.Digits.{value-next, value-grows, fits-more, over-more, size-fits, size-large}
 use Rattle.base.proofs.digit.read_value.Statement.{statement}
 use Rattle.base.proofs.digit.read_value.Tie as tie
-use Rattle.base.proofs.digit.read_value.Reads as reads
-use Rattle.base.proofs.digit.read_value.Lts as lts
-use Rattle.base.proofs.digit.digit_of.Reads as digit-of-reads
 
 abbrev Inv-loop : tie.InvT-loop
 Inv-loop base first s at n limit v₀ i₀ v i = (v ≡ valueOf base first s at i) × (i ≤ n) × (v ≤ limit)

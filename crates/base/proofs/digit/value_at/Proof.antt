@@ -1,13 +1,8 @@
-use Prim.Native.Nat.{ℕ}
-use mathlib.Core.Path.{_≡_}
 use native.Mathlib.Omega.{arith}
 use Rattle.base.proofs.Digits.{fits-value, large-value, value-small}
 use borrow.Author.Needs.{needs}
 use Rattle.base.proofs.digit.value_at.Statement.{statement}
 use Rattle.base.proofs.digit.value_at.Tie as tie
-use Rattle.base.proofs.digit.value_at.Reads as reads
-use Rattle.base.proofs.digit.value_at.Lts as lts
-use Rattle.base.proofs.digit.read_value.Reads as read-value-reads
 
 -- src/digit.rt:75:11
 read-value-requires : tie.Need-read-value-requires

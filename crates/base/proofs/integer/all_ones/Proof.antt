@@ -1,13 +1,11 @@
 use borrow.Author.Needs.{needs}
 use Prim.Native.Nat.{_≤_, _-_, _+_, _^_}
-use mathlib.Core.Path.{_≡_, refl}
+use mathlib.Core.Path.{_≡_}
 use native.Mathlib.Omega.{arith}
 use native.Mathlib.Nat.{pow-zero}
 use Rattle.base.proofs.LittleEndian.{ones-more, room}
 use Rattle.base.proofs.integer.all_ones.Statement.{statement}
 use Rattle.base.proofs.integer.all_ones.Tie as tie
-use Rattle.base.proofs.integer.all_ones.Reads as reads
-use Rattle.base.proofs.integer.all_ones.Lts as lts
 
 abbrev Inv-loop : tie.InvT-loop
 Inv-loop n v₀ i₀ v i = (i ≤ n) × (v + 1 ≡ 256 ^ i)

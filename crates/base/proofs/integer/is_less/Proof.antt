@@ -1,8 +1,6 @@
 use borrow.Author.Needs.{needs}
 use Rattle.base.proofs.integer.is_less.Statement.{statement}
 use Rattle.base.proofs.integer.is_less.Tie as tie
-use Rattle.base.proofs.integer.is_less.Reads as reads
-use Rattle.base.proofs.integer.is_less.Lts as lts
 
 -- src/integer.rt:76:20
 enum-known-a : tie.Need-enum-known-a

@@ -2,9 +2,6 @@ use Rattle.base.proofs.Orders.{whole-before, whole-after, whole-same}
 use borrow.Author.Needs.{needs}
 use Rattle.base.proofs.integer.order_of_whole.Statement.{statement}
 use Rattle.base.proofs.integer.order_of_whole.Tie as tie
-use Rattle.base.proofs.integer.order_of_whole.Reads as reads
-use Rattle.base.proofs.integer.order_of_whole.Lts as lts
-use Rattle.base.proofs.integer.is_less.Reads as is-less-reads
 
 -- src/integer.rt:90:8
 is-less-requires : tie.Need-is-less-requires

@@ -1,15 +1,10 @@
-use mathlib.Core.Path.{ap, sym, _∙_}
+use mathlib.Core.Path.{ap, _∙_}
 use Rattle.base.specs.LittleEndian.{twosComplement}
 use Rattle.base.proofs.Lists.{part-short}
 use Rattle.base.proofs.LittleEndian.{signed-low, signed-high}
 use borrow.Author.Needs.{needs}
 use Rattle.base.proofs.integer.signed_in.Statement.{statement}
 use Rattle.base.proofs.integer.signed_in.Tie as tie
-use Rattle.base.proofs.integer.signed_in.Reads as reads
-use Rattle.base.proofs.integer.signed_in.Lts as lts
-use Rattle.base.proofs.bytes.piece.Reads as piece-reads
-use Rattle.base.proofs.integer.all_ones.Reads as all-ones-reads
-use Rattle.base.proofs.integer.unsigned_of.Reads as unsigned-of-reads
 
 -- src/integer.rt:63:9
 piece-requires : tie.Need-piece-requires

@@ -4,10 +4,6 @@ use Rattle.base.proofs.Lists.{part-short}
 use borrow.Author.Needs.{needs}
 use Rattle.base.proofs.integer.unsigned_in.Statement.{statement}
 use Rattle.base.proofs.integer.unsigned_in.Tie as tie
-use Rattle.base.proofs.integer.unsigned_in.Reads as reads
-use Rattle.base.proofs.integer.unsigned_in.Lts as lts
-use Rattle.base.proofs.bytes.piece.Reads as piece-reads
-use Rattle.base.proofs.integer.unsigned_of.Reads as unsigned-of-reads
 
 -- src/integer.rt:56:17
 piece-requires : tie.Need-piece-requires

@@ -5,13 +5,10 @@ use native.Mathlib.Omega.{arith}
 use native.Mathlib.Nat.{sub-self, sub-zero}
 use lib.Seq.{drop-length}
 use lib.ListN.{length, drop}
-use mathlib.Core.Path.{_≡_, refl, sym, ap, _∙_}
+use mathlib.Core.Path.{_≡_, sym, ap}
 use Prim.Native.Nat.{suc, _+_, _≤_, _-_, _<_, _^_}
 use Rattle.base.proofs.integer.unsigned_of.Statement.{statement}
 use Rattle.base.proofs.integer.unsigned_of.Tie as tie
-use Rattle.base.proofs.integer.unsigned_of.Reads as reads
-use Rattle.base.proofs.integer.unsigned_of.Lts as lts
-use Rattle.base.proofs.bytes.widen.Reads as widen-reads
 
 abbrev Inv-loop : tie.InvT-loop
 Inv-loop s v₀ i₀ v i = (i ≤ length s) × (v ≡ unsigned (drop i s)) × (v < 256 ^ (length s - i))

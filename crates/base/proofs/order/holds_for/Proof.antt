@@ -1,13 +1,7 @@
-use mathlib.Core.Path.{_≡_}
 use Rattle.base.proofs.Orders.{unequal-is, at-most-is, at-least-is}
 use borrow.Author.Needs.{needs}
 use Rattle.base.proofs.order.holds_for.Statement.{statement}
 use Rattle.base.proofs.order.holds_for.Tie as tie
-use Rattle.base.proofs.order.holds_for.Reads as reads
-use Rattle.base.proofs.order.holds_for.Lts as lts
-use Rattle.base.proofs.order.is_equal.Reads as is-equal-reads
-use Rattle.base.proofs.order.is_greater.Reads as is-greater-reads
-use Rattle.base.proofs.order.is_less.Reads as is-less-reads
 
 -- src/order.rt:61:28
 enum-told : tie.Need-enum-told

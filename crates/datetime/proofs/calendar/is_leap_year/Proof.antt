@@ -1,4 +1,3 @@
-use borrow.Author.Needs.{needs}
 use borrow.Author.Tests.{eq-eqb, ne-eqb}
 use Rattle.datetime.proofs.calendar.is_leap_year.Statement.{statement}
 use Rattle.datetime.proofs.calendar.is_leap_year.Tie as tie

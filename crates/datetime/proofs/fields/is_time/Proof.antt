@@ -1,4 +1,3 @@
-use borrow.Author.Needs.{needs}
 use borrow.Author.Tests.{le-leb, lt-leb}
 use Rattle.datetime.proofs.fields.is_time.Statement.{statement}
 use Rattle.datetime.proofs.fields.is_time.Tie as tie

@@ -1,7 +1,7 @@
-use mathlib.Core.Path.{_≡_, _∙_, ap}
+use mathlib.Core.Path.{_∙_, ap}
 use mathlib.Core.Bool.{Bool}
 use native.Mathlib.Omega.{arith}
-use Rattle.datetime.specs.Calendar.{leapYear, daysBeforeMonth}
+use Rattle.datetime.specs.Calendar.{daysBeforeMonth}
 use Rattle.datetime.proofs.Bounds.{date-bounds}
 use borrow.Author.Needs.{needs}
 use Rattle.datetime.proofs.moment.days_before.Statement.{statement}

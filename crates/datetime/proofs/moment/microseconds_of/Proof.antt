@@ -1,5 +1,4 @@
 use borrow.Author.Needs.{needs}
-use native.Mathlib.Omega.{arith}
 use Rattle.datetime.proofs.Bounds.{time-bounds}
 use Rattle.datetime.proofs.moment.microseconds_of.Statement.{statement}
 use Rattle.datetime.proofs.moment.microseconds_of.Tie as tie

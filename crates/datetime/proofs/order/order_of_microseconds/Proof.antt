@@ -1,8 +1,4 @@
-use borrow.Author.Needs.{needs}
-use mathlib.Core.Path.{_≡_}
-use mathlib.Core.Bool.{Bool, true, false}
 use mir.Facts.{toZ-ofZ}
-use lib.Signed.{ltZ}
 use Rattle.base.specs.Order.{orderOfWhole}
 use Rattle.datetime.proofs.order.order_of_microseconds.Statement.{statement}
 use Rattle.datetime.proofs.order.order_of_microseconds.Tie as tie

@@ -1,4 +1,3 @@
-use borrow.Author.Needs.{needs}
 use borrow.Author.Tests.{eq-eqb, ne-eqb}
 use Rattle.datetime.proofs.read.is_sign.Statement.{statement}
 use Rattle.datetime.proofs.read.is_sign.Tie as tie

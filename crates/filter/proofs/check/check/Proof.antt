@@ -2,10 +2,6 @@ use Rattle.filter.proofs.Laws as law
 use borrow.Author.Needs.{needs}
 use Rattle.filter.proofs.check.check.Statement.{statement}
 use Rattle.filter.proofs.check.check.Tie as tie
-use Rattle.filter.proofs.check.check.Reads as reads
-use Rattle.filter.proofs.check.check.Lts as lts
-use Rattle.filter.proofs.check.check_under.Reads as check-under-reads
-use Rattle.table.proofs.validate.read_table.Reads as read-table-reads
 
 -- src/check.rt:93:11
 read-table-requires : tie.Need-read-table-requires

@@ -2,10 +2,6 @@ use Rattle.filter.proofs.Laws as law
 use borrow.Author.Needs.{needs}
 use Rattle.filter.proofs.check.check_comparison.Statement.{statement}
 use Rattle.filter.proofs.check.check_comparison.Tie as tie
-use Rattle.filter.proofs.check.check_comparison.Reads as reads
-use Rattle.filter.proofs.check.check_comparison.Lts as lts
-use Rattle.base.proofs.bytes.piece.Reads as piece-reads
-use Rattle.judge.proofs.judge.Reads as judge-reads
 
 -- src/check.rt:29:23
 piece-requires : tie.Need-piece-requires

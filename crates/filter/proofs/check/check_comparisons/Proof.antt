@@ -2,10 +2,6 @@ use Rattle.filter.proofs.Laws as law
 use borrow.Author.Needs.{needs}
 use Rattle.filter.proofs.check.check_comparisons.Statement.{statement}
 use Rattle.filter.proofs.check.check_comparisons.Tie as tie
-use Rattle.filter.proofs.check.check_comparisons.Reads as reads
-use Rattle.filter.proofs.check.check_comparisons.Lts as lts
-use Rattle.filter.proofs.check.check_from.Reads as check-from-reads
-use Rattle.query_text.proofs.query.open_query.Reads as open-query-reads
 
 -- src/check.rt:69:9
 open-query-requires : tie.Need-open-query-requires

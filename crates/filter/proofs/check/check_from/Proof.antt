@@ -1,17 +1,12 @@
 use borrow.Author.Needs.{needs}
 use Rattle.filter.proofs.Laws as law
-use mathlib.Core.Path.{_≡_, refl}
+use mathlib.Core.Path.{_≡_}
 use Rattle.syntax.specs.Scan.{scan}
 use Rattle.query_text.specs.Query.{queryFrom, verdict}
 use Rattle.query_text.specs.declared.query.Verdict.the-variants.{WellFormed}
 use Rattle.filter.specs.Answers.{checkQuery}
 use Rattle.filter.proofs.check.check_from.Statement.{statement}
 use Rattle.filter.proofs.check.check_from.Tie as tie
-use Rattle.filter.proofs.check.check_from.Reads as reads
-use Rattle.filter.proofs.check.check_from.Lts as lts
-use Rattle.filter.proofs.check.check_comparison.Reads as check-comparison-reads
-use Rattle.query_text.proofs.join.is_last.Reads as is-last-reads
-use Rattle.query_text.proofs.query.read_next.Reads as read-next-reads
 
 abbrev Inv-loop : tie.InvT-loop
 Inv-loop q t grouped token₀ left₀ token left = (checkQuery q t (queryFrom left₀ (scan q) grouped token₀) ≡ checkQuery q t (queryFrom left (scan q) grouped token)) × (verdict (queryFrom left (scan q) grouped token) ≡ WellFormed)

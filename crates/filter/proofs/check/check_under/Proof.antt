@@ -2,10 +2,6 @@ use Rattle.filter.proofs.Laws as law
 use borrow.Author.Needs.{needs}
 use Rattle.filter.proofs.check.check_under.Statement.{statement}
 use Rattle.filter.proofs.check.check_under.Tie as tie
-use Rattle.filter.proofs.check.check_under.Reads as reads
-use Rattle.filter.proofs.check.check_under.Lts as lts
-use Rattle.filter.proofs.check.check_comparisons.Reads as check-comparisons-reads
-use Rattle.query_text.proofs.text.check_text.Reads as check-text-reads
 
 -- src/check.rt:77:11
 check-text-requires : tie.Need-check-text-requires

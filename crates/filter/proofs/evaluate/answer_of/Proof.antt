@@ -1,9 +1,6 @@
-use borrow.Author.Needs.{needs}
 use Rattle.filter.proofs.Laws as law
 use Rattle.filter.proofs.evaluate.answer_of.Statement.{statement}
 use Rattle.filter.proofs.evaluate.answer_of.Tie as tie
-use Rattle.filter.proofs.evaluate.answer_of.Reads as reads
-use Rattle.filter.proofs.evaluate.answer_of.Lts as lts
 
 -- src/evaluate.rt:102:9
 returns : tie.Need-returns

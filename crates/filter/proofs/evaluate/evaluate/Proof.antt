@@ -2,10 +2,6 @@ use Rattle.filter.proofs.Laws as law
 use borrow.Author.Needs.{needs}
 use Rattle.filter.proofs.evaluate.evaluate.Statement.{statement}
 use Rattle.filter.proofs.evaluate.evaluate.Tie as tie
-use Rattle.filter.proofs.evaluate.evaluate.Reads as reads
-use Rattle.filter.proofs.evaluate.evaluate.Lts as lts
-use Rattle.filter.proofs.check.check.Reads as check-reads
-use Rattle.filter.proofs.evaluate.evaluate_accepted.Reads as evaluate-accepted-reads
 
 -- src/evaluate.rt:126:11
 check-requires : tie.Need-check-requires

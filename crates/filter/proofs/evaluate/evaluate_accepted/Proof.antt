@@ -2,11 +2,6 @@ use Rattle.filter.proofs.Laws as law
 use borrow.Author.Needs.{needs}
 use Rattle.filter.proofs.evaluate.evaluate_accepted.Statement.{statement}
 use Rattle.filter.proofs.evaluate.evaluate_accepted.Tie as tie
-use Rattle.filter.proofs.evaluate.evaluate_accepted.Reads as reads
-use Rattle.filter.proofs.evaluate.evaluate_accepted.Lts as lts
-use Rattle.filter.proofs.evaluate.answer_of.Reads as answer-of-reads
-use Rattle.filter.proofs.evaluate.walk.Reads as walk-reads
-use Rattle.instance.proofs.conform.check_instance.Reads as check-instance-reads
 
 -- src/evaluate.rt:113:11
 check-instance-requires : tie.Need-check-instance-requires

@@ -3,9 +3,6 @@ use native.Mathlib.Omega.{arith}
 use borrow.Author.Needs.{needs}
 use Rattle.filter.proofs.evaluate.judge_if.Statement.{statement}
 use Rattle.filter.proofs.evaluate.judge_if.Tie as tie
-use Rattle.filter.proofs.evaluate.judge_if.Reads as reads
-use Rattle.filter.proofs.evaluate.judge_if.Lts as lts
-use Rattle.judge.proofs.judge.Reads as judge-reads
 
 -- src/evaluate.rt:37:9
 returns : tie.Need-returns

@@ -2,10 +2,6 @@ use Rattle.short_circuit.proofs.Loop.{walk-called}
 use borrow.Author.Needs.{needs}
 use Rattle.filter.proofs.evaluate.walk.Statement.{statement}
 use Rattle.filter.proofs.evaluate.walk.Tie as tie
-use Rattle.filter.proofs.evaluate.walk.Reads as reads
-use Rattle.filter.proofs.evaluate.walk.Lts as lts
-use Rattle.filter.proofs.evaluate.walk_from.Reads as walk-from-reads
-use Rattle.query_text.proofs.query.open_query.Reads as open-query-reads
 
 -- src/evaluate.rt:93:9
 open-query-requires : tie.Need-open-query-requires

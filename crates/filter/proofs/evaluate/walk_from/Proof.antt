@@ -1,23 +1,14 @@
 use borrow.Author.Needs.{needs}
 use Prim.Native.Nat.{_+_, _*_, _≤_}
-use mathlib.Core.Path.{_≡_, refl}
+use mathlib.Core.Path.{_≡_}
 use native.Mathlib.Omega.{arith}
 use Rattle.syntax.specs.Scan.{scan}
-use Rattle.query_text.specs.Query.{query, queryFrom}
+use Rattle.query_text.specs.Query.{queryFrom}
 use Rattle.short_circuit.specs.Walk.{walkQuery, initial, stateOf}
 use Rattle.short_circuit.proofs.Loop.{walk-first, walk-out, walk-none, walk-last, walk-more}
 use Rattle.filter.specs.Answers.{truthIn, stepsIn}
 use Rattle.filter.proofs.evaluate.walk_from.Statement.{statement}
 use Rattle.filter.proofs.evaluate.walk_from.Tie as tie
-use Rattle.filter.proofs.evaluate.walk_from.Reads as reads
-use Rattle.filter.proofs.evaluate.walk_from.Lts as lts
-use Rattle.filter.proofs.evaluate.judge_if.Reads as judge-if-reads
-use Rattle.short_circuit.proofs.advance.Reads as advance-reads
-use Rattle.short_circuit.proofs.finish.Reads as finish-reads
-use Rattle.short_circuit.proofs.is_live.Reads as is-live-reads
-use Rattle.short_circuit.proofs.start.Reads as start-reads
-use Rattle.query_text.proofs.join.is_last.Reads as is-last-reads
-use Rattle.query_text.proofs.query.read_next.Reads as read-next-reads
 
 abbrev Inv-loop : tie.InvT-loop
 Inv-loop q t i grouped token₀ left₀ chains₀ steps₀ token left chains steps = (walkQuery (truthIn q t i) (stepsIn q t i) initial 0 (queryFrom left₀ (scan q) grouped token₀) ≡ walkQuery (truthIn q t i) (stepsIn q t i) (stateOf chains) steps (queryFrom left (scan q) grouped token)) × (steps + 65536 * left ≤ 4194304)

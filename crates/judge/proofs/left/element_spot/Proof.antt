@@ -2,10 +2,6 @@ use Rattle.judge.proofs.Sides as law
 use borrow.Author.Needs.{needs}
 use Rattle.judge.proofs.left.element_spot.Statement.{statement}
 use Rattle.judge.proofs.left.element_spot.Tie as tie
-use Rattle.judge.proofs.left.element_spot.Reads as reads
-use Rattle.judge.proofs.left.element_spot.Lts as lts
-use Rattle.base.proofs.bytes.piece.Reads as piece-reads
-use Rattle.instance.proofs.start.start_of.Reads as start-of-reads
 
 -- src/left.rt:34:21
 enum-told : tie.Need-enum-told

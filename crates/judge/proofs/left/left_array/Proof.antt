@@ -2,9 +2,6 @@ use Rattle.judge.proofs.Sides as law
 use borrow.Author.Needs.{needs}
 use Rattle.judge.proofs.left.left_array.Statement.{statement}
 use Rattle.judge.proofs.left.left_array.Tie as tie
-use Rattle.judge.proofs.left.left_array.Reads as reads
-use Rattle.judge.proofs.left.left_array.Lts as lts
-use Rattle.judge.proofs.left.read_indexed.Reads as read-indexed-reads
 
 -- src/left.rt:76:31
 enum-told : tie.Need-enum-told

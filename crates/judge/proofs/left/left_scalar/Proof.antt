@@ -2,8 +2,6 @@ use Rattle.judge.proofs.Sides as law
 use borrow.Author.Needs.{needs}
 use Rattle.judge.proofs.left.left_scalar.Statement.{statement}
 use Rattle.judge.proofs.left.left_scalar.Tie as tie
-use Rattle.judge.proofs.left.left_scalar.Reads as reads
-use Rattle.judge.proofs.left.left_scalar.Lts as lts
 
 -- src/left.rt:59:31
 enum-told : tie.Need-enum-told

@@ -2,10 +2,6 @@ use Rattle.judge.proofs.Sides as law
 use borrow.Author.Needs.{needs}
 use Rattle.judge.proofs.left.read_indexed.Statement.{statement}
 use Rattle.judge.proofs.left.read_indexed.Tie as tie
-use Rattle.judge.proofs.left.read_indexed.Reads as reads
-use Rattle.judge.proofs.left.read_indexed.Lts as lts
-use Rattle.judge.proofs.left.element_spot.Reads as element-spot-reads
-use Rattle.operand.proofs.index.read_index.Reads as read-index-reads
 
 -- src/left.rt:48:11
 read-index-requires : tie.Need-read-index-requires

@@ -2,9 +2,6 @@ use Rattle.judge.proofs.Meeting as law
 use borrow.Author.Needs.{needs}
 use Rattle.judge.proofs.meet.is_ordered.Statement.{statement}
 use Rattle.judge.proofs.meet.is_ordered.Tie as tie
-use Rattle.judge.proofs.meet.is_ordered.Reads as reads
-use Rattle.judge.proofs.meet.is_ordered.Lts as lts
-use Rattle.record.proofs.kind.same_row.Reads as same-row-reads
 
 -- src/meet.rt:44:5
 same-row-requires : tie.Need-same-row-requires

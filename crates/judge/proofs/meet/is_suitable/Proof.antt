@@ -2,10 +2,6 @@ use Rattle.judge.proofs.Meeting as law
 use borrow.Author.Needs.{needs}
 use Rattle.judge.proofs.meet.is_suitable.Statement.{statement}
 use Rattle.judge.proofs.meet.is_suitable.Tie as tie
-use Rattle.judge.proofs.meet.is_suitable.Reads as reads
-use Rattle.judge.proofs.meet.is_suitable.Lts as lts
-use Rattle.judge.proofs.meet.is_ordered.Reads as is-ordered-reads
-use Rattle.terminal.proofs.operator.is_equality.Reads as is-equality-reads
 
 -- src/meet.rt:50:5
 is-equality-requires : tie.Need-is-equality-requires

@@ -2,10 +2,6 @@ use Rattle.judge.proofs.Meeting as law
 use borrow.Author.Needs.{needs}
 use Rattle.judge.proofs.meet.judge_bodies.Statement.{statement}
 use Rattle.judge.proofs.meet.judge_bodies.Tie as tie
-use Rattle.judge.proofs.meet.judge_bodies.Reads as reads
-use Rattle.judge.proofs.meet.judge_bodies.Lts as lts
-use Rattle.arrays.proofs.compare_bodies.Reads as compare-bodies-reads
-use Rattle.terminal.proofs.operator.is_equality.Reads as is-equality-reads
 
 -- src/meet.rt:233:8
 is-equality-requires : tie.Need-is-equality-requires

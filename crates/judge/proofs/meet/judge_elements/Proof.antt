@@ -2,11 +2,6 @@ use Rattle.judge.proofs.Meeting as law
 use borrow.Author.Needs.{needs}
 use Rattle.judge.proofs.meet.judge_elements.Statement.{statement}
 use Rattle.judge.proofs.meet.judge_elements.Tie as tie
-use Rattle.judge.proofs.meet.judge_elements.Reads as reads
-use Rattle.judge.proofs.meet.judge_elements.Lts as lts
-use Rattle.judge.proofs.right.check_elements.Reads as check-elements-reads
-use Rattle.arrays.proofs.compare_elements.Reads as compare-elements-reads
-use Rattle.terminal.proofs.operator.is_equality.Reads as is-equality-reads
 
 -- src/meet.rt:188:9
 is-equality-requires : tie.Need-is-equality-requires

@@ -2,11 +2,6 @@ use Rattle.judge.proofs.Meeting as law
 use borrow.Author.Needs.{needs}
 use Rattle.judge.proofs.meet.judge_like.Statement.{statement}
 use Rattle.judge.proofs.meet.judge_like.Tie as tie
-use Rattle.judge.proofs.meet.judge_like.Reads as reads
-use Rattle.judge.proofs.meet.judge_like.Lts as lts
-use Rattle.operand.proofs.pattern_literal.is_pattern.Reads as is-pattern-reads
-use Rattle.like.proofs.like.Reads as like-reads
-use Rattle.record.proofs.kind.same_row.Reads as same-row-reads
 
 -- src/meet.rt:134:9
 same-row-requires : tie.Need-same-row-requires

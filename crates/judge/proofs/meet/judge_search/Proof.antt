@@ -3,10 +3,6 @@ use Rattle.judge.proofs.Meeting as law
 use borrow.Author.Needs.{needs}
 use Rattle.judge.proofs.meet.judge_search.Statement.{statement}
 use Rattle.judge.proofs.meet.judge_search.Tie as tie
-use Rattle.judge.proofs.meet.judge_search.Reads as reads
-use Rattle.judge.proofs.meet.judge_search.Lts as lts
-use Rattle.judge.proofs.meet.settle.Reads as settle-reads
-use Rattle.search.proofs.search.Reads as search-reads
 
 -- src/meet.rt:145:11
 settle-requires : tie.Need-settle-requires

@@ -2,10 +2,6 @@ use Rattle.judge.proofs.Meeting as law
 use borrow.Author.Needs.{needs}
 use Rattle.judge.proofs.meet.judge_values.Statement.{statement}
 use Rattle.judge.proofs.meet.judge_values.Tie as tie
-use Rattle.judge.proofs.meet.judge_values.Reads as reads
-use Rattle.judge.proofs.meet.judge_values.Lts as lts
-use Rattle.judge.proofs.meet.settle.Reads as settle-reads
-use Rattle.judge.proofs.meet.tell_values.Reads as tell-values-reads
 
 -- src/meet.rt:115:11
 settle-requires : tie.Need-settle-requires

@@ -2,10 +2,6 @@ use Rattle.judge.proofs.Meeting as law
 use borrow.Author.Needs.{needs}
 use Rattle.judge.proofs.meet.meet_body.Statement.{statement}
 use Rattle.judge.proofs.meet.meet_body.Tie as tie
-use Rattle.judge.proofs.meet.meet_body.Reads as reads
-use Rattle.judge.proofs.meet.meet_body.Lts as lts
-use Rattle.judge.proofs.meet.judge_bodies.Reads as judge-bodies-reads
-use Rattle.judge.proofs.meet.operator_of.Reads as operator-of-reads
 
 -- src/meet.rt:254:42
 enum-told : tie.Need-enum-told

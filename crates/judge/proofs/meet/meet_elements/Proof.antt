@@ -2,10 +2,6 @@ use Rattle.judge.proofs.Meeting as law
 use borrow.Author.Needs.{needs}
 use Rattle.judge.proofs.meet.meet_elements.Statement.{statement}
 use Rattle.judge.proofs.meet.meet_elements.Tie as tie
-use Rattle.judge.proofs.meet.meet_elements.Reads as reads
-use Rattle.judge.proofs.meet.meet_elements.Lts as lts
-use Rattle.judge.proofs.meet.judge_elements.Reads as judge-elements-reads
-use Rattle.judge.proofs.meet.operator_of.Reads as operator-of-reads
 
 -- src/meet.rt:213:42
 enum-told : tie.Need-enum-told

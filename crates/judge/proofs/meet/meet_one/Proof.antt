@@ -2,12 +2,6 @@ use Rattle.judge.proofs.Meeting as law
 use borrow.Author.Needs.{needs}
 use Rattle.judge.proofs.meet.meet_one.Statement.{statement}
 use Rattle.judge.proofs.meet.meet_one.Tie as tie
-use Rattle.judge.proofs.meet.meet_one.Reads as reads
-use Rattle.judge.proofs.meet.meet_one.Lts as lts
-use Rattle.judge.proofs.meet.is_suitable.Reads as is-suitable-reads
-use Rattle.judge.proofs.meet.judge_search.Reads as judge-search-reads
-use Rattle.judge.proofs.meet.judge_values.Reads as judge-values-reads
-use Rattle.judge.proofs.meet.operator_of.Reads as operator-of-reads
 
 -- src/meet.rt:164:9
 operator-of-requires : tie.Need-operator-of-requires

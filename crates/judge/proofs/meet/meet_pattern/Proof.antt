@@ -2,10 +2,6 @@ use Rattle.judge.proofs.Meeting as law
 use borrow.Author.Needs.{needs}
 use Rattle.judge.proofs.meet.meet_pattern.Statement.{statement}
 use Rattle.judge.proofs.meet.meet_pattern.Tie as tie
-use Rattle.judge.proofs.meet.meet_pattern.Reads as reads
-use Rattle.judge.proofs.meet.meet_pattern.Lts as lts
-use Rattle.judge.proofs.meet.is_negated.Reads as is-negated-reads
-use Rattle.judge.proofs.meet.judge_like.Reads as judge-like-reads
 
 -- src/meet.rt:161:42
 enum-told : tie.Need-enum-told

@@ -2,8 +2,6 @@ use Rattle.judge.proofs.Meeting as law
 use borrow.Author.Needs.{needs}
 use Rattle.judge.proofs.meet.settle.Statement.{statement}
 use Rattle.judge.proofs.meet.settle.Tie as tie
-use Rattle.judge.proofs.meet.settle.Reads as reads
-use Rattle.judge.proofs.meet.settle.Lts as lts
 
 -- src/meet.rt:78:9
 returns : tie.Need-returns

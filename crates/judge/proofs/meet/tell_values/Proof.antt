@@ -2,9 +2,6 @@ use Rattle.judge.proofs.Meeting as law
 use borrow.Author.Needs.{needs}
 use Rattle.judge.proofs.meet.tell_values.Statement.{statement}
 use Rattle.judge.proofs.meet.tell_values.Tie as tie
-use Rattle.judge.proofs.meet.tell_values.Reads as reads
-use Rattle.judge.proofs.meet.tell_values.Lts as lts
-use Rattle.place.proofs.compare_spot.Reads as compare-spot-reads
 
 -- src/meet.rt:97:16
 compare-spot-requires : tie.Need-compare-spot-requires

@@ -2,14 +2,6 @@ use Rattle.judge.proofs.Meeting as law
 use borrow.Author.Needs.{needs}
 use Rattle.judge.proofs.property.meet_array.Statement.{statement}
 use Rattle.judge.proofs.property.meet_array.Tie as tie
-use Rattle.judge.proofs.property.meet_array.Reads as reads
-use Rattle.judge.proofs.property.meet_array.Lts as lts
-use Rattle.judge.proofs.left.read_indexed.Reads as read-indexed-reads
-use Rattle.judge.proofs.meet.meet_body.Reads as meet-body-reads
-use Rattle.judge.proofs.meet.meet_one.Reads as meet-one-reads
-use Rattle.judge.proofs.right.value_of_row.Reads as value-of-row-reads
-use Rattle.place.proofs.body_at.Reads as body-at-reads
-use Rattle.record.proofs.kind.same_row.Reads as same-row-reads
 
 -- src/property.rt:79:9
 same-row-requires : tie.Need-same-row-requires

@@ -2,11 +2,6 @@ use Rattle.judge.proofs.Meeting as law
 use borrow.Author.Needs.{needs}
 use Rattle.judge.proofs.property.meet_kind.Statement.{statement}
 use Rattle.judge.proofs.property.meet_kind.Tie as tie
-use Rattle.judge.proofs.property.meet_kind.Reads as reads
-use Rattle.judge.proofs.property.meet_kind.Lts as lts
-use Rattle.judge.proofs.property.meet_array.Reads as meet-array-reads
-use Rattle.judge.proofs.property.meet_scalar.Reads as meet-scalar-reads
-use Rattle.record.proofs.kind.kind_of.Reads as kind-of-reads
 
 -- src/property.rt:105:11
 kind-of-requires : tie.Need-kind-of-requires

@@ -2,11 +2,6 @@ use Rattle.judge.proofs.Meeting as law
 use borrow.Author.Needs.{needs}
 use Rattle.judge.proofs.property.meet_property.Statement.{statement}
 use Rattle.judge.proofs.property.meet_property.Tie as tie
-use Rattle.judge.proofs.property.meet_property.Reads as reads
-use Rattle.judge.proofs.property.meet_property.Lts as lts
-use Rattle.instance.proofs.start.start_of.Reads as start-of-reads
-use Rattle.judge.proofs.property.meet_kind.Reads as meet-kind-reads
-use Rattle.operand.proofs.name.find_named.Reads as find-named-reads
 
 -- src/property.rt:127:11
 find-named-requires : tie.Need-find-named-requires

@@ -2,11 +2,6 @@ use Rattle.judge.proofs.Meeting as law
 use borrow.Author.Needs.{needs}
 use Rattle.judge.proofs.property.meet_scalar.Statement.{statement}
 use Rattle.judge.proofs.property.meet_scalar.Tie as tie
-use Rattle.judge.proofs.property.meet_scalar.Reads as reads
-use Rattle.judge.proofs.property.meet_scalar.Lts as lts
-use Rattle.judge.proofs.meet.meet_one.Reads as meet-one-reads
-use Rattle.judge.proofs.right.value_of_row.Reads as value-of-row-reads
-use Rattle.record.proofs.kind.same_row.Reads as same-row-reads
 
 -- src/property.rt:53:25
 enum-told : tie.Need-enum-told

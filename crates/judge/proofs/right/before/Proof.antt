@@ -2,8 +2,6 @@ use Rattle.judge.proofs.Sides as law
 use borrow.Author.Needs.{needs}
 use Rattle.judge.proofs.right.before.Statement.{statement}
 use Rattle.judge.proofs.right.before.Tie as tie
-use Rattle.judge.proofs.right.before.Reads as reads
-use Rattle.judge.proofs.right.before.Lts as lts
 
 -- src/right.rt:94:29
 enum-told : tie.Need-enum-told

@@ -6,13 +6,6 @@ use Rattle.judge.specs.Answers.{listRead, listBefore}
 use mathlib.Core.Path.{_≡_}
 use Rattle.judge.proofs.right.check_elements.Statement.{statement}
 use Rattle.judge.proofs.right.check_elements.Tie as tie
-use Rattle.judge.proofs.right.check_elements.Reads as reads
-use Rattle.judge.proofs.right.check_elements.Lts as lts
-use Rattle.judge.proofs.right.before.Reads as before-reads
-use Rattle.judge.proofs.right.list_of.Reads as list-of-reads
-use Rattle.judge.proofs.right.literal_at.Reads as literal-at-reads
-use Rattle.operand.proofs.element.first_element.Reads as first-element-reads
-use Rattle.operand.proofs.element.next_element.Reads as next-element-reads
 
 abbrev Inv-loop : tie.InvT-loop
 Inv-loop family q start count t₀ left₀ seen₀ t left seen = listRead (elements family q (elementTokens q start count)) ≡ listBefore seen (listRead (elements family q (elementsFrom q t left)))

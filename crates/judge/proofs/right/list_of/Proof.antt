@@ -2,8 +2,6 @@ use Rattle.judge.proofs.Sides as law
 use borrow.Author.Needs.{needs}
 use Rattle.judge.proofs.right.list_of.Statement.{statement}
 use Rattle.judge.proofs.right.list_of.Tie as tie
-use Rattle.judge.proofs.right.list_of.Reads as reads
-use Rattle.judge.proofs.right.list_of.Lts as lts
 
 -- src/right.rt:84:29
 enum-told : tie.Need-enum-told

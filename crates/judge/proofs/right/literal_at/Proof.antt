@@ -2,10 +2,6 @@ use Rattle.judge.proofs.Sides as law
 use borrow.Author.Needs.{needs}
 use Rattle.judge.proofs.right.literal_at.Statement.{statement}
 use Rattle.judge.proofs.right.literal_at.Tie as tie
-use Rattle.judge.proofs.right.literal_at.Reads as reads
-use Rattle.judge.proofs.right.literal_at.Lts as lts
-use Rattle.judge.proofs.right.in_query.Reads as in-query-reads
-use Rattle.operand.proofs.literal_read.read_literal.Reads as read-literal-reads
 
 -- src/right.rt:50:11
 read-literal-requires : tie.Need-read-literal-requires

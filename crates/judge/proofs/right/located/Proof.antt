@@ -2,10 +2,6 @@ use Rattle.judge.proofs.Sides as law
 use borrow.Author.Needs.{needs}
 use Rattle.judge.proofs.right.located.Statement.{statement}
 use Rattle.judge.proofs.right.located.Tie as tie
-use Rattle.judge.proofs.right.located.Reads as reads
-use Rattle.judge.proofs.right.located.Lts as lts
-use Rattle.place.proofs.bytes_of.Reads as bytes-of-reads
-use Rattle.value.proofs.read.item_at.Reads as item-at-reads
 
 -- src/right.rt:63:24
 bytes-of-requires : tie.Need-bytes-of-requires

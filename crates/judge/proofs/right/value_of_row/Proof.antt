@@ -2,9 +2,6 @@ use Rattle.judge.proofs.Sides as law
 use borrow.Author.Needs.{needs}
 use Rattle.judge.proofs.right.value_of_row.Statement.{statement}
 use Rattle.judge.proofs.right.value_of_row.Tie as tie
-use Rattle.judge.proofs.right.value_of_row.Reads as reads
-use Rattle.judge.proofs.right.value_of_row.Lts as lts
-use Rattle.judge.proofs.right.located.Reads as located-reads
 
 -- src/right.rt:72:9
 returns : tie.Need-returns

@@ -1,4 +1,3 @@
-use native.Mathlib.Omega.{arith}
 use Rattle.base.proofs.Digits.{fits-limit}
 use Rattle.literal.proofs.Laws.{digits-whole, digits-large}
 use borrow.Author.Needs.{needs}

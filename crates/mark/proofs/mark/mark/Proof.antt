@@ -2,10 +2,6 @@ use Rattle.mark.proofs.Laws as law
 use borrow.Author.Needs.{needs}
 use Rattle.mark.proofs.mark.mark.Statement.{statement}
 use Rattle.mark.proofs.mark.mark.Tie as tie
-use Rattle.mark.proofs.mark.mark.Reads as reads
-use Rattle.mark.proofs.mark.mark.Lts as lts
-use Rattle.filter.proofs.check.check.Reads as check-reads
-use Rattle.mark.proofs.mark.mark_accepted.Reads as mark-accepted-reads
 
 -- src/mark.rt:87:11
 check-requires : tie.Need-check-requires

@@ -2,11 +2,6 @@ use Rattle.mark.proofs.Laws as law
 use borrow.Author.Needs.{needs}
 use Rattle.mark.proofs.mark.mark_accepted.Statement.{statement}
 use Rattle.mark.proofs.mark.mark_accepted.Tie as tie
-use Rattle.mark.proofs.mark.mark_accepted.Reads as reads
-use Rattle.mark.proofs.mark.mark_accepted.Lts as lts
-use Rattle.mark.proofs.mark.mark_instances.Reads as mark-instances-reads
-use Rattle.mark.proofs.mark.refuse.Reads as refuse-reads
-use Rattle.run.proofs.reading.read_run.Reads as read-run-reads
 
 -- src/mark.rt:72:11
 read-run-requires : tie.Need-read-run-requires

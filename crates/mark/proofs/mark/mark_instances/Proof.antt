@@ -9,13 +9,6 @@ use Rattle.mark.proofs.Marking as law
 use Rattle.mark.proofs.Marking.{Marking}
 use Rattle.mark.proofs.mark.mark_instances.Statement.{statement}
 use Rattle.mark.proofs.mark.mark_instances.Tie as tie
-use Rattle.mark.proofs.mark.mark_instances.Reads as reads
-use Rattle.mark.proofs.mark.mark_instances.Lts as lts
-use Rattle.base.proofs.bytes.piece.Reads as piece-reads
-use Rattle.filter.proofs.evaluate.evaluate_accepted.Reads as evaluate-accepted-reads
-use Rattle.run.proofs.totals.count_answer.Reads as count-answer-reads
-use Rattle.run.proofs.totals.mark_of.Reads as mark-of-reads
-use Rattle.record.proofs.read.record_at.Reads as record-at-reads
 
 abbrev Inv-loop : tie.InvT-loop
 Inv-loop query table run marks₀ at₀ i₀ totals₀ marks at i totals = Marking query table (instancesOf run) (bodiesOf run (records run at)) marks₀ i totals marks

@@ -2,12 +2,6 @@ use Rattle.query_text.specs.Query.{atEnd, joinBy, joinAfter}
 use borrow.Author.Needs.{needs}
 use Rattle.query_text.proofs.join.read_join.Statement.{statement}
 use Rattle.query_text.proofs.join.read_join.Tie as tie
-use Rattle.query_text.proofs.join.read_join.Reads as reads
-use Rattle.query_text.proofs.join.read_join.Lts as lts
-use Rattle.token.proofs.token_after.Reads as token-after-reads
-use Rattle.query_text.proofs.join.read_outer.Reads as read-outer-reads
-use Rattle.terminal.proofs.kind.is_kind.Reads as is-kind-reads
-use Rattle.terminal.proofs.operator.joining_of.Reads as joining-of-reads
 
 joining-of-requires : tie.Need-joining-of-requires
 joining-of-requires c κs = search needs

@@ -3,11 +3,6 @@ use Rattle.query_text.specs.Query.{atEnd, openGroup, outerBy, afterGroup
 use borrow.Author.Needs.{needs}
 use Rattle.query_text.proofs.join.read_outer.Statement.{statement}
 use Rattle.query_text.proofs.join.read_outer.Tie as tie
-use Rattle.query_text.proofs.join.read_outer.Reads as reads
-use Rattle.query_text.proofs.join.read_outer.Lts as lts
-use Rattle.token.proofs.token_after.Reads as token-after-reads
-use Rattle.terminal.proofs.kind.is_kind.Reads as is-kind-reads
-use Rattle.terminal.proofs.operator.joining_of.Reads as joining-of-reads
 
 is-kind-requires : tie.Need-is-kind-requires
 is-kind-requires c κs = search needs

@@ -5,12 +5,6 @@ use Rattle.syntax.specs.Scan.{scan}
 use Rattle.query_text.specs.Query.{queryFrom, verdict}
 use Rattle.query_text.proofs.query.read_from.Statement.{statement}
 use Rattle.query_text.proofs.query.read_from.Tie as tie
-use Rattle.query_text.proofs.query.read_from.Reads as reads
-use Rattle.query_text.proofs.query.read_from.Lts as lts
-use Rattle.query_text.proofs.join.is_last.Reads as is-last-reads
-use Rattle.syntax.proofs.fault.limit_at.Reads as limit-at-reads
-use Rattle.query_text.proofs.query.read_next.Reads as read-next-reads
-use Rattle.terminal.proofs.quantifier.is_opening.Reads as is-opening-reads
 
 abbrev Inv-loop : tie.InvT-loop
 Inv-loop q grouped t₀ left₀ t left = verdict (queryFrom left₀ (scan q) grouped t₀) ≡ verdict (queryFrom left (scan q) grouped t)

@@ -2,10 +2,6 @@ use Rattle.query_text.specs.Query.{nextOf, nextBy, nextComparison}
 use borrow.Author.Needs.{needs}
 use Rattle.query_text.proofs.query.read_next.Statement.{statement}
 use Rattle.query_text.proofs.query.read_next.Tie as tie
-use Rattle.query_text.proofs.query.read_next.Reads as reads
-use Rattle.query_text.proofs.query.read_next.Lts as lts
-use Rattle.syntax.proofs.comparison.read_comparison.Reads as read-comparison-reads
-use Rattle.query_text.proofs.join.read_join.Reads as read-join-reads
 
 read-comparison-requires : tie.Need-read-comparison-requires
 read-comparison-requires c κs = search needs

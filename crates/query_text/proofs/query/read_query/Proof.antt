@@ -2,10 +2,6 @@ use borrow.Author.Needs.{needs}
 use Rattle.query_text.specs.Query.{query}
 use Rattle.query_text.proofs.query.read_query.Statement.{statement}
 use Rattle.query_text.proofs.query.read_query.Tie as tie
-use Rattle.query_text.proofs.query.read_query.Reads as reads
-use Rattle.query_text.proofs.query.read_query.Lts as lts
-use Rattle.query_text.proofs.query.open_query.Reads as open-query-reads
-use Rattle.query_text.proofs.query.read_from.Reads as read-from-reads
 
 open-query-requires : tie.Need-open-query-requires
 open-query-requires c κs = search needs

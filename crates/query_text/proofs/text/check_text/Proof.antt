@@ -2,10 +2,6 @@ use Rattle.query_text.proofs.Laws.{text-long, text-ill, text-well}
 use borrow.Author.Needs.{needs}
 use Rattle.query_text.proofs.text.check_text.Statement.{statement}
 use Rattle.query_text.proofs.text.check_text.Tie as tie
-use Rattle.query_text.proofs.text.check_text.Reads as reads
-use Rattle.query_text.proofs.text.check_text.Lts as lts
-use Rattle.query_text.proofs.query.read_query.Reads as read-query-reads
-use Rattle.unicode.proofs.text.check_utf8.Reads as check-utf8-reads
 
 returns : tie.Need-returns
 returns c = search text-long

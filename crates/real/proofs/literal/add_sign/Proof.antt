@@ -1,4 +1,3 @@
-use borrow.Author.Needs.{needs}
 use Rattle.real.proofs.literal.add_sign.Statement.{statement}
 use Rattle.real.proofs.literal.add_sign.Tie as tie
 

@@ -11,10 +11,6 @@ use Rattle.real.proofs.Laws.{divided}
 use borrow.Author.Needs.{needs}
 use Rattle.real.proofs.literal.divide.Statement.{statement}
 use Rattle.real.proofs.literal.divide.Tie as tie
-use Rattle.real.proofs.literal.divide.Reads as reads
-use Rattle.real.proofs.literal.divide.Lts as lts
-use Rattle.real.proofs.literal.keep.Reads as keep-reads
-use Rattle.real.proofs.powers.power_of_ten.Reads as power-of-ten-reads
 
 -- src/literal.rt:42:30
 cast-keep : tie.Need-cast-keep

@@ -2,9 +2,6 @@ use mir.Facts.{toZ-ofZ}
 use borrow.Author.Needs.{needs}
 use Rattle.real.proofs.literal.keep.Statement.{statement}
 use Rattle.real.proofs.literal.keep.Tie as tie
-use Rattle.real.proofs.literal.keep.Reads as reads
-use Rattle.real.proofs.literal.keep.Lts as lts
-use Rattle.real.proofs.literal.add_sign.Reads as add-sign-reads
 
 -- src/literal.rt:22:9
 add-sign-requires : tie.Need-add-sign-requires

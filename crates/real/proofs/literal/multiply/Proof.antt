@@ -9,10 +9,6 @@ use Rattle.real.specs.Real.{magnitude}
 use borrow.Author.Needs.{needs}
 use Rattle.real.proofs.literal.multiply.Statement.{statement}
 use Rattle.real.proofs.literal.multiply.Tie as tie
-use Rattle.real.proofs.literal.multiply.Reads as reads
-use Rattle.real.proofs.literal.multiply.Lts as lts
-use Rattle.real.proofs.literal.keep.Reads as keep-reads
-use Rattle.real.proofs.powers.power_of_ten.Reads as power-of-ten-reads
 
 -- src/literal.rt:35:28
 cast-keep : tie.Need-cast-keep

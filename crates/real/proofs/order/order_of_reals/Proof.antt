@@ -1,4 +1,3 @@
-use borrow.Author.Needs.{needs}
 use Rattle.real.proofs.order.order_of_reals.Statement.{statement}
 use Rattle.real.proofs.order.order_of_reals.Tie as tie
 

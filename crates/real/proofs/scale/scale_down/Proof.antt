@@ -1,5 +1,4 @@
 use Rattle.real.proofs.Scales.{down-none, down-beyond, down-within}
-use borrow.Author.Needs.{needs}
 use Rattle.real.proofs.scale.scale_down.Statement.{statement}
 use Rattle.real.proofs.scale.scale_down.Tie as tie
 

@@ -1,5 +1,4 @@
 use Rattle.real.proofs.Scales.{up-beyond, up-within}
-use borrow.Author.Needs.{needs}
 use Rattle.real.proofs.scale.scale_up.Statement.{statement}
 use Rattle.real.proofs.scale.scale_up.Tie as tie
 

@@ -2,10 +2,6 @@ use Rattle.report.proofs.Laws as law
 use borrow.Author.Needs.{needs}
 use Rattle.report.proofs.line.write_answer.Statement.{statement}
 use Rattle.report.proofs.line.write_answer.Tie as tie
-use Rattle.report.proofs.line.write_answer.Reads as reads
-use Rattle.report.proofs.line.write_answer.Lts as lts
-use Rattle.filter.proofs.refusal.number_of.Reads as number-of-reads
-use Rattle.report.proofs.line.write_line.Reads as write-line-reads
 
 -- src/line.rt:33:26
 enum-known-answer : tie.Need-enum-known-answer

@@ -2,10 +2,6 @@ use Rattle.report.proofs.Laws as law
 use borrow.Author.Needs.{needs}
 use Rattle.report.proofs.line.write_ending.Statement.{statement}
 use Rattle.report.proofs.line.write_ending.Tie as tie
-use Rattle.report.proofs.line.write_ending.Reads as reads
-use Rattle.report.proofs.line.write_ending.Lts as lts
-use Rattle.text_writer.proofs.buffer.write_byte.Reads as write-byte-reads
-use Rattle.text_writer.proofs.decimal.write_decimal.Reads as write-decimal-reads
 
 -- src/line.rt:14:9
 write-byte-requires : tie.Need-write-byte-requires

@@ -2,12 +2,6 @@ use Rattle.report.proofs.Laws as law
 use borrow.Author.Needs.{needs}
 use Rattle.report.proofs.line.write_line.Statement.{statement}
 use Rattle.report.proofs.line.write_line.Tie as tie
-use Rattle.report.proofs.line.write_line.Reads as reads
-use Rattle.report.proofs.line.write_line.Lts as lts
-use Rattle.text_writer.proofs.buffer.write_byte.Reads as write-byte-reads
-use Rattle.text_writer.proofs.buffer.write_text.Reads as write-text-reads
-use Rattle.text_writer.proofs.decimal.write_decimal.Reads as write-decimal-reads
-use Rattle.report.proofs.line.write_ending.Reads as write-ending-reads
 
 -- src/line.rt:22:9
 write-decimal-requires : tie.Need-write-decimal-requires

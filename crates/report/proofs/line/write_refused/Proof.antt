@@ -2,11 +2,6 @@ use Rattle.report.proofs.Laws as law
 use borrow.Author.Needs.{needs}
 use Rattle.report.proofs.line.write_refused.Statement.{statement}
 use Rattle.report.proofs.line.write_refused.Tie as tie
-use Rattle.report.proofs.line.write_refused.Reads as reads
-use Rattle.report.proofs.line.write_refused.Lts as lts
-use Rattle.text_writer.proofs.buffer.write_text.Reads as write-text-reads
-use Rattle.text_writer.proofs.decimal.write_decimal.Reads as write-decimal-reads
-use Rattle.report.proofs.line.write_ending.Reads as write-ending-reads
 
 -- src/line.rt:46:37
 slice-aggregate-write-text : tie.Need-slice-aggregate-write-text

@@ -7,12 +7,6 @@ use Rattle.report.proofs.Writing as law
 use Rattle.report.proofs.Writing.{Writing}
 use Rattle.report.proofs.output.write_answers.Statement.{statement}
 use Rattle.report.proofs.output.write_answers.Tie as tie
-use Rattle.report.proofs.output.write_answers.Reads as reads
-use Rattle.report.proofs.output.write_answers.Lts as lts
-use Rattle.base.proofs.bytes.piece.Reads as piece-reads
-use Rattle.filter.proofs.evaluate.evaluate_accepted.Reads as evaluate-accepted-reads
-use Rattle.record.proofs.read.record_at.Reads as record-at-reads
-use Rattle.report.proofs.line.write_answer.Reads as write-answer-reads
 
 abbrev Inv-loop : tie.InvT-loop
 Inv-loop out₀ query table run place₀ at₀ number₀ out place at number = Writing query table run out₀ out place number at

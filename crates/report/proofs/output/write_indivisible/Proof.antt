@@ -2,10 +2,6 @@ use Rattle.report.proofs.Writing as law
 use borrow.Author.Needs.{needs}
 use Rattle.report.proofs.output.write_indivisible.Statement.{statement}
 use Rattle.report.proofs.output.write_indivisible.Tie as tie
-use Rattle.report.proofs.output.write_indivisible.Reads as reads
-use Rattle.report.proofs.output.write_indivisible.Lts as lts
-use Rattle.report.proofs.line.write_refused.Reads as write-refused-reads
-use Rattle.run.proofs.fault.number_of.Reads as number-of-reads
 
 -- src/output.rt:53:27
 number-of-requires : tie.Need-number-of-requires

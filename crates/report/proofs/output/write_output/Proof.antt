@@ -4,12 +4,6 @@ use Rattle.report.proofs.Writing as law
 use borrow.Author.Needs.{needs}
 use Rattle.report.proofs.output.write_output.Statement.{statement}
 use Rattle.report.proofs.output.write_output.Tie as tie
-use Rattle.report.proofs.output.write_output.Reads as reads
-use Rattle.report.proofs.output.write_output.Lts as lts
-use Rattle.filter.proofs.check.check.Reads as check-reads
-use Rattle.filter.proofs.refusal.number_of.Reads as number-of-reads
-use Rattle.report.proofs.line.write_refused.Reads as write-refused-reads
-use Rattle.report.proofs.output.write_run.Reads as write-run-reads
 
 -- src/output.rt:65:11
 check-requires : tie.Need-check-requires

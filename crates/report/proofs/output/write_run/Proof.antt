@@ -2,11 +2,6 @@ use Rattle.report.proofs.Writing as law
 use borrow.Author.Needs.{needs}
 use Rattle.report.proofs.output.write_run.Statement.{statement}
 use Rattle.report.proofs.output.write_run.Tie as tie
-use Rattle.report.proofs.output.write_run.Reads as reads
-use Rattle.report.proofs.output.write_run.Lts as lts
-use Rattle.report.proofs.output.write_indivisible.Reads as write-indivisible-reads
-use Rattle.report.proofs.output.write_answers.Reads as write-answers-reads
-use Rattle.run.proofs.reading.read_run.Reads as read-run-reads
 
 -- src/output.rt:53:9
 write-indivisible-requires : tie.Need-write-indivisible-requires

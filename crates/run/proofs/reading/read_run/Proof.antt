@@ -1,6 +1,6 @@
 use borrow.Author.Needs.{needs}
 use Prim.Native.Nat.{_-_, _≤_}
-use mathlib.Core.Path.{_≡_, refl}
+use mathlib.Core.Path.{_≡_}
 use native.Mathlib.Omega.{arith}
 use lib.ListN.{length}
 use Rattle.record.specs.Record.{records}
@@ -9,9 +9,6 @@ use Rattle.run.specs.Run.{readingFrom, runReading}
 use Rattle.run.proofs.Laws as law
 use Rattle.run.proofs.reading.read_run.Statement.{statement}
 use Rattle.run.proofs.reading.read_run.Tie as tie
-use Rattle.run.proofs.reading.read_run.Reads as reads
-use Rattle.run.proofs.reading.read_run.Lts as lts
-use Rattle.record.proofs.read.record_at.Reads as record-at-reads
 
 abbrev Inv-loop : tie.InvT-loop
 Inv-loop run at₀ count₀ at count = (runReading run ≡ readingFrom count (records run at)) × (count ≤ at)

@@ -2,8 +2,6 @@ use Rattle.run.proofs.Counting as law
 use borrow.Author.Needs.{needs}
 use Rattle.run.proofs.totals.count_answer.Statement.{statement}
 use Rattle.run.proofs.totals.count_answer.Tie as tie
-use Rattle.run.proofs.totals.count_answer.Reads as reads
-use Rattle.run.proofs.totals.count_answer.Lts as lts
 
 -- src/totals.rt:31:23
 enum-told : tie.Need-enum-told

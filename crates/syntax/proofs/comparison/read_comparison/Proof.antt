@@ -2,13 +2,6 @@ use borrow.Author.Needs.{needs}
 use Rattle.syntax.proofs.Laws.{comp-no-left, comp-no-operation, comp-no-right, comp-has}
 use Rattle.syntax.proofs.comparison.read_comparison.Statement.{statement}
 use Rattle.syntax.proofs.comparison.read_comparison.Tie as tie
-use Rattle.syntax.proofs.comparison.read_comparison.Reads as reads
-use Rattle.syntax.proofs.comparison.read_comparison.Lts as lts
-use Rattle.syntax.proofs.left_side.is_plain.Reads as is-plain-reads
-use Rattle.syntax.proofs.left_side.is_single.Reads as is-single-reads
-use Rattle.syntax.proofs.left_side.read_left.Reads as read-left-reads
-use Rattle.syntax.proofs.operation.read_operation.Reads as read-operation-reads
-use Rattle.syntax.proofs.right_side.read_right.Reads as read-right-reads
 
 read-left-requires : tie.Need-read-left-requires
 read-left-requires c κs = search needs

@@ -1,8 +1,6 @@
 use mathlib.Core.Path.{refl}
 use Rattle.syntax.proofs.fault.limit_at.Statement.{statement}
 use Rattle.syntax.proofs.fault.limit_at.Tie as tie
-use Rattle.syntax.proofs.fault.limit_at.Reads as reads
-use Rattle.syntax.proofs.fault.limit_at.Lts as lts
 
 returns : tie.Need-returns
 returns c = rw (c .if1 .taken) refl

@@ -2,13 +2,6 @@ use borrow.Author.Needs.{needs}
 use Rattle.syntax.proofs.Laws.{left-alone, left-bad, left-has}
 use Rattle.syntax.proofs.left_side.read_left.Statement.{statement}
 use Rattle.syntax.proofs.left_side.read_left.Tie as tie
-use Rattle.syntax.proofs.left_side.read_left.Reads as reads
-use Rattle.syntax.proofs.left_side.read_left.Lts as lts
-use Rattle.syntax.proofs.left_side.is_single.Reads as is-single-reads
-use Rattle.syntax.proofs.left_side.skip_if.Reads as skip-if-reads
-use Rattle.syntax.proofs.path.read_reference.Reads as read-reference-reads
-use Rattle.terminal.proofs.kind.is_kind.Reads as is-kind-reads
-use Rattle.terminal.proofs.quantifier.quantifier_of.Reads as quantifier-of-reads
 
 is-kind-requires : tie.Need-is-kind-requires
 is-kind-requires c κs = search needs

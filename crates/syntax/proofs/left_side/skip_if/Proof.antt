@@ -2,9 +2,6 @@ use mathlib.Core.Path.{refl}
 use borrow.Author.Needs.{needs}
 use Rattle.syntax.proofs.left_side.skip_if.Statement.{statement}
 use Rattle.syntax.proofs.left_side.skip_if.Tie as tie
-use Rattle.syntax.proofs.left_side.skip_if.Reads as reads
-use Rattle.syntax.proofs.left_side.skip_if.Lts as lts
-use Rattle.token.proofs.token_after.Reads as token-after-reads
 
 token-after-requires : tie.Need-token-after-requires
 token-after-requires c κs = search needs

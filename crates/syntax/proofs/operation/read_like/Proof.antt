@@ -3,10 +3,6 @@ use Rattle.syntax.specs.Comparison.{notLike, like}
 use borrow.Author.Needs.{needs}
 use Rattle.syntax.proofs.operation.read_like.Statement.{statement}
 use Rattle.syntax.proofs.operation.read_like.Tie as tie
-use Rattle.syntax.proofs.operation.read_like.Reads as reads
-use Rattle.syntax.proofs.operation.read_like.Lts as lts
-use Rattle.token.proofs.token_after.Reads as token-after-reads
-use Rattle.terminal.proofs.kind.is_kind.Reads as is-kind-reads
 
 is-kind-requires : tie.Need-is-kind-requires
 is-kind-requires c κs = search needs

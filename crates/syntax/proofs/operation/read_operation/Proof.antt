@@ -2,11 +2,6 @@ use Rattle.syntax.specs.Comparison.{operationBy, operation}
 use borrow.Author.Needs.{needs}
 use Rattle.syntax.proofs.operation.read_operation.Statement.{statement}
 use Rattle.syntax.proofs.operation.read_operation.Tie as tie
-use Rattle.syntax.proofs.operation.read_operation.Reads as reads
-use Rattle.syntax.proofs.operation.read_operation.Lts as lts
-use Rattle.token.proofs.token_after.Reads as token-after-reads
-use Rattle.syntax.proofs.operation.read_like.Reads as read-like-reads
-use Rattle.terminal.proofs.operator.comparing_of.Reads as comparing-of-reads
 
 comparing-of-requires : tie.Need-comparing-of-requires
 comparing-of-requires c κs = search needs

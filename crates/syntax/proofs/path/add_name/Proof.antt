@@ -2,9 +2,6 @@ use Rattle.syntax.proofs.Laws.{name-second, name-more}
 use borrow.Author.Needs.{needs}
 use Rattle.syntax.proofs.path.add_name.Statement.{statement}
 use Rattle.syntax.proofs.path.add_name.Tie as tie
-use Rattle.syntax.proofs.path.add_name.Reads as reads
-use Rattle.syntax.proofs.path.add_name.Lts as lts
-use Rattle.syntax.proofs.path.span_of.Reads as span-of-reads
 
 span-of-requires : tie.Need-span-of-requires
 span-of-requires c κs = search needs

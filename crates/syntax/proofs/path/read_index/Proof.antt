@@ -2,11 +2,6 @@ use Rattle.syntax.specs.Property.{closeIndex, indexNumber, indexed}
 use borrow.Author.Needs.{needs}
 use Rattle.syntax.proofs.path.read_index.Statement.{statement}
 use Rattle.syntax.proofs.path.read_index.Tie as tie
-use Rattle.syntax.proofs.path.read_index.Reads as reads
-use Rattle.syntax.proofs.path.read_index.Lts as lts
-use Rattle.token.proofs.token_after.Reads as token-after-reads
-use Rattle.terminal.proofs.kind.is_kind.Reads as is-kind-reads
-use Rattle.terminal.proofs.literal.is_unsigned.Reads as is-unsigned-reads
 
 is-kind-requires : tie.Need-is-kind-requires
 is-kind-requires c κs = search needs

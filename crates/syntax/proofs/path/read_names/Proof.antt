@@ -1,19 +1,12 @@
 use borrow.Author.Needs.{needs}
 use Prim.Native.Nat.{_+_, _≤_}
 use mathlib.Core.Path.{_≡_, refl}
-use native.Mathlib.Omega.{arith}
 use lib.ListN.{length}
 use Rattle.syntax.specs.Scan.{scan}
 use Rattle.syntax.specs.Property.{dotted}
 use Rattle.syntax.proofs.Laws.{dots-out, dots-end, dots-bad, dots-more, names-next}
 use Rattle.syntax.proofs.path.read_names.Statement.{statement}
 use Rattle.syntax.proofs.path.read_names.Tie as tie
-use Rattle.syntax.proofs.path.read_names.Reads as reads
-use Rattle.syntax.proofs.path.read_names.Lts as lts
-use Rattle.syntax.proofs.path.add_name.Reads as add-name-reads
-use Rattle.terminal.proofs.kind.is_kind.Reads as is-kind-reads
-use Rattle.terminal.proofs.kind.is_word.Reads as is-word-reads
-use Rattle.token.proofs.token_after.Reads as token-after-reads
 
 abbrev Inv-loop : tie.InvT-loop
 Inv-loop q end path₀ t₀ left₀ path t left = (dotted left₀ (scan q) path₀ t₀ ≡ dotted left (scan q) path t) × (path .names + left ≤ length q + 2)

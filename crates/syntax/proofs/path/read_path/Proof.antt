@@ -2,11 +2,6 @@ use Rattle.syntax.specs.Property.{property}
 use borrow.Author.Needs.{needs}
 use Rattle.syntax.proofs.path.read_path.Statement.{statement}
 use Rattle.syntax.proofs.path.read_path.Tie as tie
-use Rattle.syntax.proofs.path.read_path.Reads as reads
-use Rattle.syntax.proofs.path.read_path.Lts as lts
-use Rattle.token.proofs.token_after.Reads as token-after-reads
-use Rattle.syntax.proofs.path.read_names.Reads as read-names-reads
-use Rattle.terminal.proofs.kind.is_kind.Reads as is-kind-reads
 
 is-kind-requires : tie.Need-is-kind-requires
 is-kind-requires c κs = search needs

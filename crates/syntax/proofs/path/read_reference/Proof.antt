@@ -2,10 +2,6 @@ use Rattle.syntax.specs.Property.{withIndex, withPath, reference}
 use borrow.Author.Needs.{needs}
 use Rattle.syntax.proofs.path.read_reference.Statement.{statement}
 use Rattle.syntax.proofs.path.read_reference.Tie as tie
-use Rattle.syntax.proofs.path.read_reference.Reads as reads
-use Rattle.syntax.proofs.path.read_reference.Lts as lts
-use Rattle.syntax.proofs.path.read_index.Reads as read-index-reads
-use Rattle.syntax.proofs.path.read_path.Reads as read-path-reads
 
 read-path-requires : tie.Need-read-path-requires
 read-path-requires c κs = search needs

@@ -2,11 +2,6 @@ use Rattle.syntax.specs.Comparison.{listFrom, arrayLiteral}
 use borrow.Author.Needs.{needs}
 use Rattle.syntax.proofs.right_side.read_array.Statement.{statement}
 use Rattle.syntax.proofs.right_side.read_array.Tie as tie
-use Rattle.syntax.proofs.right_side.read_array.Reads as reads
-use Rattle.syntax.proofs.right_side.read_array.Lts as lts
-use Rattle.token.proofs.token_after.Reads as token-after-reads
-use Rattle.syntax.proofs.right_side.read_elements.Reads as read-elements-reads
-use Rattle.terminal.proofs.kind.is_kind.Reads as is-kind-reads
 
 token-after-requires : tie.Need-token-after-requires
 token-after-requires c κs = search needs

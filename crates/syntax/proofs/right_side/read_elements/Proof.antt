@@ -6,12 +6,6 @@ use Rattle.syntax.specs.Scan.{scan}
 use Rattle.syntax.specs.Comparison.{elements}
 use Rattle.syntax.proofs.right_side.read_elements.Statement.{statement}
 use Rattle.syntax.proofs.right_side.read_elements.Tie as tie
-use Rattle.syntax.proofs.right_side.read_elements.Reads as reads
-use Rattle.syntax.proofs.right_side.read_elements.Lts as lts
-use Rattle.token.proofs.token_after.Reads as token-after-reads
-use Rattle.syntax.proofs.fault.limit_at.Reads as limit-at-reads
-use Rattle.terminal.proofs.kind.is_kind.Reads as is-kind-reads
-use Rattle.terminal.proofs.literal.is_literal.Reads as is-literal-reads
 
 abbrev Inv-loop : tie.InvT-loop
 Inv-loop q start t₀ count₀ left₀ t count left = (elements left₀ (scan q) start count₀ t₀ ≡ elements left (scan q) start count t) × (count + left ≤ 32)

@@ -2,14 +2,6 @@ use Rattle.syntax.specs.Comparison.{operandOf, operand}
 use borrow.Author.Needs.{needs}
 use Rattle.syntax.proofs.right_side.read_operand.Statement.{statement}
 use Rattle.syntax.proofs.right_side.read_operand.Tie as tie
-use Rattle.syntax.proofs.right_side.read_operand.Reads as reads
-use Rattle.syntax.proofs.right_side.read_operand.Lts as lts
-use Rattle.token.proofs.token_after.Reads as token-after-reads
-use Rattle.syntax.proofs.right_side.read_array.Reads as read-array-reads
-use Rattle.syntax.proofs.path.read_reference.Reads as read-reference-reads
-use Rattle.terminal.proofs.operator.is_equality.Reads as is-equality-reads
-use Rattle.terminal.proofs.kind.is_kind.Reads as is-kind-reads
-use Rattle.terminal.proofs.literal.is_literal.Reads as is-literal-reads
 
 is-literal-requires : tie.Need-is-literal-requires
 is-literal-requires c κs = search needs

@@ -2,10 +2,6 @@ use Rattle.syntax.specs.Comparison.{pattern}
 use borrow.Author.Needs.{needs}
 use Rattle.syntax.proofs.right_side.read_pattern.Statement.{statement}
 use Rattle.syntax.proofs.right_side.read_pattern.Tie as tie
-use Rattle.syntax.proofs.right_side.read_pattern.Reads as reads
-use Rattle.syntax.proofs.right_side.read_pattern.Lts as lts
-use Rattle.token.proofs.token_after.Reads as token-after-reads
-use Rattle.terminal.proofs.kind.is_kind.Reads as is-kind-reads
 
 is-kind-requires : tie.Need-is-kind-requires
 is-kind-requires c κs = search needs

@@ -2,10 +2,6 @@ use Rattle.syntax.specs.Comparison.{rightSide}
 use borrow.Author.Needs.{needs}
 use Rattle.syntax.proofs.right_side.read_right.Statement.{statement}
 use Rattle.syntax.proofs.right_side.read_right.Tie as tie
-use Rattle.syntax.proofs.right_side.read_right.Reads as reads
-use Rattle.syntax.proofs.right_side.read_right.Lts as lts
-use Rattle.syntax.proofs.right_side.read_operand.Reads as read-operand-reads
-use Rattle.syntax.proofs.right_side.read_pattern.Reads as read-pattern-reads
 
 enum-known-v : tie.Need-enum-known-v
 enum-known-v c = search needs

@@ -1,12 +1,7 @@
-use mathlib.Core.Path.{_≡_, refl, sym, _∙_, ap}
-use mathlib.Core.Bool.{Bool, true, false, _&&_, _||_}
 use Rattle.terminal.specs.Terminal.{same}
 use borrow.Author.Needs.{needs}
 use Rattle.terminal.proofs.kind.is_kind.Statement.{statement}
 use Rattle.terminal.proofs.kind.is_kind.Tie as tie
-use Rattle.terminal.proofs.kind.is_kind.Reads as reads
-use Rattle.terminal.proofs.kind.is_kind.Lts as lts
-use Rattle.terminal.proofs.kind.code_of.Reads as code-of-reads
 
 code-of-requires : tie.Need-code-of-requires
 code-of-requires c κs = search needs

@@ -1,14 +1,7 @@
-use mathlib.Core.Path.{_≡_, refl, sym, _∙_, ap}
-use mathlib.Core.Bool.{Bool, true, false, _&&_, _||_}
 use Rattle.terminal.specs.Terminal.{unsigned}
 use borrow.Author.Needs.{needs}
 use Rattle.terminal.proofs.literal.is_unsigned.Statement.{statement}
 use Rattle.terminal.proofs.literal.is_unsigned.Tie as tie
-use Rattle.terminal.proofs.literal.is_unsigned.Reads as reads
-use Rattle.terminal.proofs.literal.is_unsigned.Lts as lts
-use Rattle.base.proofs.bytes.byte_at.Reads as byte-at-reads
-use Rattle.scan.proofs.in_class.Reads as in-class-reads
-use Rattle.terminal.proofs.kind.is_kind.Reads as is-kind-reads
 
 is-kind-requires : tie.Need-is-kind-requires
 is-kind-requires c κs = search needs

@@ -1,11 +1,8 @@
-use mathlib.Core.Path.{_≡_, refl, sym, _∙_, ap}
-use mathlib.Core.Bool.{Bool, true, false, _&&_, _||_}
+use mathlib.Core.Path.{sym, ap}
 use Rattle.terminal.specs.Terminal.{comparingKind}
 use borrow.Author.Needs.{needs}
 use Rattle.terminal.proofs.operator.comparing_kind.Statement.{statement}
 use Rattle.terminal.proofs.operator.comparing_kind.Tie as tie
-use Rattle.terminal.proofs.operator.comparing_kind.Reads as reads
-use Rattle.terminal.proofs.operator.comparing_kind.Lts as lts
 
 enum-told : tie.Need-enum-told
 enum-told c = search needs

@@ -1,12 +1,7 @@
-use mathlib.Core.Path.{_≡_, refl, sym, _∙_, ap}
-use mathlib.Core.Bool.{Bool, true, false, _&&_, _||_}
 use Rattle.terminal.specs.Terminal.{opening}
 use borrow.Author.Needs.{needs}
 use Rattle.terminal.proofs.quantifier.is_opening.Statement.{statement}
 use Rattle.terminal.proofs.quantifier.is_opening.Tie as tie
-use Rattle.terminal.proofs.quantifier.is_opening.Reads as reads
-use Rattle.terminal.proofs.quantifier.is_opening.Lts as lts
-use Rattle.terminal.proofs.kind.is_kind.Reads as is-kind-reads
 
 is-kind-requires : tie.Need-is-kind-requires
 is-kind-requires c κs = search needs

@@ -2,8 +2,6 @@ use Rattle.text_writer.proofs.Written as law
 use borrow.Author.Needs.{needs}
 use Rattle.text_writer.proofs.buffer.write_byte.Statement.{statement}
 use Rattle.text_writer.proofs.buffer.write_byte.Tie as tie
-use Rattle.text_writer.proofs.buffer.write_byte.Reads as reads
-use Rattle.text_writer.proofs.buffer.write_byte.Lts as lts
 
 -- src/buffer.rt:9:9
 slice-write-out : tie.Need-slice-write-out

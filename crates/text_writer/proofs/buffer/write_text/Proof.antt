@@ -6,9 +6,6 @@ use Rattle.text_writer.specs.Written.{Written}
 use Rattle.text_writer.proofs.Written as law
 use Rattle.text_writer.proofs.buffer.write_text.Statement.{statement}
 use Rattle.text_writer.proofs.buffer.write_text.Tie as tie
-use Rattle.text_writer.proofs.buffer.write_text.Reads as reads
-use Rattle.text_writer.proofs.buffer.write_text.Lts as lts
-use Rattle.text_writer.proofs.buffer.write_byte.Reads as write-byte-reads
 
 abbrev Inv-loop : tie.InvT-loop
 Inv-loop out₀ at text place₀ i₀ out place i = Written out₀ at (take i text) place out

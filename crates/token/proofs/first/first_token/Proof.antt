@@ -1,6 +1,5 @@
 use borrow.Author.Tests.{le-leb, lt-leb}
 use native.Mathlib.Omega.{arith}
-use mathlib.Core.Path.{_≡_, refl}
 use lib.ListN.{length}
 use Rattle.token.proofs.Laws.{end-spans, from-spans}
 use Rattle.token.specs.Token.{tokenAt, tokenFrom}

@@ -1,5 +1,5 @@
 use native.Mathlib.Omega.{arith}
-use mathlib.Core.Path.{_≡_, refl}
+use mathlib.Core.Path.{refl}
 use lib.ListN.{length}
 use Rattle.token.proofs.Laws.{fit-spans}
 use Rattle.token.specs.Token.{textToken, isToken}

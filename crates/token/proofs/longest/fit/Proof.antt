@@ -1,6 +1,4 @@
 use borrow.Author.Tests.{lt-ltb, le-ltb}
-use native.Mathlib.Omega.{arith}
-use mathlib.Core.Path.{_≡_, refl}
 use Rattle.token.specs.Token.{fitted}
 use Rattle.token.proofs.longest.fit.Statement.{statement}
 use Rattle.token.proofs.longest.fit.Tie as tie

@@ -1,6 +1,4 @@
 use borrow.Author.Tests.{lt-ltb, le-ltb}
-use native.Mathlib.Omega.{arith}
-use mathlib.Core.Path.{_≡_, refl}
 use Rattle.token.specs.Token.{longer}
 use Rattle.token.proofs.longest.longer_of.Statement.{statement}
 use Rattle.token.proofs.longest.longer_of.Tie as tie

@@ -1,5 +1,3 @@
-use native.Mathlib.Omega.{arith}
-use mathlib.Core.Path.{_≡_, refl}
 use lib.ListN.{length}
 use Rattle.token.proofs.Laws.{long-spans}
 use Rattle.token.specs.Token.{longestAt}

@@ -1,6 +1,4 @@
 use borrow.Author.Tests.{ne-eqb}
-use native.Mathlib.Omega.{arith}
-use mathlib.Core.Path.{_≡_, refl}
 use Rattle.token.specs.Token.{pairKind}
 use borrow.Author.Needs.{needs}
 use Rattle.token.proofs.symbol.pair_kind.Statement.{statement}

@@ -1,5 +1,4 @@
 use native.Mathlib.Omega.{arith}
-use mathlib.Core.Path.{_≡_, refl}
 use lib.ListN.{length}
 use Rattle.token.proofs.Laws.{long-spans, sym-spans, pair-fits, single-fits}
 use Rattle.token.specs.Token.{symbolToken}

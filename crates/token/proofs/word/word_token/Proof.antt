@@ -1,5 +1,4 @@
 use native.Mathlib.Omega.{arith}
-use mathlib.Core.Path.{_≡_, refl}
 use lib.ListN.{length}
 use Rattle.token.proofs.Laws.{fit-spans, word-kind-some}
 use Rattle.token.proofs.Spans.{none-spans}

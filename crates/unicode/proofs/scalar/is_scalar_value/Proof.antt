@@ -1,4 +1,3 @@
-use borrow.Author.Needs.{needs}
 use Rattle.unicode.specs.Scalar.{isScalarValue}
 use Rattle.base.specs.Range.{within}
 use borrow.Author.Tests.{le-leb}

@@ -1,4 +1,3 @@
-use borrow.Author.Needs.{needs}
 use Rattle.unicode.proofs.WellFormed as law
 use Rattle.unicode.proofs.sequence.lead_length.Statement.{statement}
 use Rattle.unicode.proofs.sequence.lead_length.Tie as tie

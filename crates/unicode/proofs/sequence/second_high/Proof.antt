@@ -1,4 +1,3 @@
-use borrow.Author.Needs.{needs}
 use Rattle.unicode.proofs.WellFormed as law
 use Rattle.unicode.proofs.sequence.second_high.Statement.{statement}
 use Rattle.unicode.proofs.sequence.second_high.Tie as tie

@@ -1,4 +1,3 @@
-use borrow.Author.Needs.{needs}
 use Rattle.unicode.proofs.WellFormed as law
 use Rattle.unicode.proofs.sequence.second_low.Statement.{statement}
 use Rattle.unicode.proofs.sequence.second_low.Tie as tie

@@ -3,7 +3,7 @@ use Rattle.unicode.proofs.WellFormed as law
 use Rattle.unicode.specs.WellFormed.{firstIllFormed, illFormedFrom}
 use mathlib.Core.Path.{_≡_, refl}
 use lib.ListN.{length}
-use Prim.Native.Nat.{_-_, _≤_}
+use Prim.Native.Nat.{_-_}
 use native.Mathlib.Omega.{arith}
 use Rattle.unicode.proofs.text.check_utf8.Statement.{statement}
 use Rattle.unicode.proofs.text.check_utf8.Tie as tie

@@ -1,16 +1,7 @@
 use Rattle.value.proofs.Ordering as law
-use Rattle.value.specs.Compare.{orderOfScalars}
-use Rattle.value.specs.Item.{itemValue}
-use mathlib.Core.Path.{_≡_, refl, _∙_}
 use borrow.Author.Needs.{needs}
 use Rattle.value.proofs.compare.compare_items.Statement.{statement}
 use Rattle.value.proofs.compare.compare_items.Tie as tie
-use Rattle.value.proofs.compare.compare_items.Reads as reads
-use Rattle.value.proofs.compare.compare_items.Lts as lts
-use Rattle.base.proofs.order.holds_for.Reads as holds-for-reads
-use Rattle.value.proofs.compare.null_holds.Reads as null-holds-reads
-use Rattle.value.proofs.compare.order_of_items.Reads as order-of-items-reads
-use Rattle.value.proofs.item.is_null.Reads as is-null-reads
 
 -- src/compare.rt:152:8
 is-null-requires : tie.Need-is-null-requires

@@ -1,17 +1,7 @@
-use Rattle.value.proofs.Ordering as law
-use Rattle.value.specs.Compare.{orderOfScalars}
 use Rattle.value.specs.Item.{itemValue}
-use mathlib.Core.Path.{_≡_, refl, _∙_}
 use borrow.Author.Needs.{needs}
 use Rattle.value.proofs.compare.order_of_items.Statement.{statement}
 use Rattle.value.proofs.compare.order_of_items.Tie as tie
-use Rattle.value.proofs.compare.order_of_items.Reads as reads
-use Rattle.value.proofs.compare.order_of_items.Lts as lts
-use Rattle.value.proofs.compare.order_with_datetime.Reads as order-with-datetime-reads
-use Rattle.value.proofs.compare.order_with_real.Reads as order-with-real-reads
-use Rattle.value.proofs.compare.order_with_sequence.Reads as order-with-sequence-reads
-use Rattle.value.proofs.compare.order_with_truth.Reads as order-with-truth-reads
-use Rattle.value.proofs.compare.order_with_whole.Reads as order-with-whole-reads
 
 -- src/compare.rt:125:23
 enum-told : tie.Need-enum-told

@@ -1,16 +1,7 @@
 use Rattle.value.proofs.Ordering as law
-use Rattle.value.specs.Compare.{orderOfScalars}
-use Rattle.value.specs.Item.{itemValue}
-use mathlib.Core.Path.{_≡_, refl, _∙_}
 use borrow.Author.Needs.{needs}
 use Rattle.value.proofs.compare.order_of_sequences.Statement.{statement}
 use Rattle.value.proofs.compare.order_of_sequences.Tie as tie
-use Rattle.value.proofs.compare.order_of_sequences.Reads as reads
-use Rattle.value.proofs.compare.order_of_sequences.Lts as lts
-use Rattle.base.proofs.bytes.piece.Reads as piece-reads
-use Rattle.value.proofs.compare.equality.Reads as equality-reads
-use Rattle.value.proofs.item.same_sort.Reads as same-sort-reads
-use Rattle.value.proofs.unit.same_units.Reads as same-units-reads
 
 -- src/compare.rt:97:9
 same-sort-requires : tie.Need-same-sort-requires

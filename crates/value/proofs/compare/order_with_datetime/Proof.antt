@@ -1,13 +1,10 @@
 use Rattle.value.proofs.Ordering as law
 use Rattle.value.specs.Compare.{orderOfScalars}
 use Rattle.value.specs.Item.{itemValue}
-use mathlib.Core.Path.{_≡_, refl, _∙_}
+use mathlib.Core.Path.{_∙_}
 use borrow.Author.Needs.{needs}
 use Rattle.value.proofs.compare.order_with_datetime.Statement.{statement}
 use Rattle.value.proofs.compare.order_with_datetime.Tie as tie
-use Rattle.value.proofs.compare.order_with_datetime.Reads as reads
-use Rattle.value.proofs.compare.order_with_datetime.Lts as lts
-use Rattle.datetime.proofs.order.order_of_datetimes.Reads as order-of-datetimes-reads
 
 -- src/compare.rt:83:23
 enum-told : tie.Need-enum-told

@@ -1,13 +1,10 @@
 use Rattle.value.proofs.Ordering as law
 use Rattle.value.specs.Compare.{orderOfScalars}
 use Rattle.value.specs.Item.{itemValue}
-use mathlib.Core.Path.{_≡_, refl, _∙_}
+use mathlib.Core.Path.{_∙_}
 use borrow.Author.Needs.{needs}
 use Rattle.value.proofs.compare.order_with_real.Statement.{statement}
 use Rattle.value.proofs.compare.order_with_real.Tie as tie
-use Rattle.value.proofs.compare.order_with_real.Reads as reads
-use Rattle.value.proofs.compare.order_with_real.Lts as lts
-use Rattle.real.proofs.order.order_of_reals.Reads as order-of-reals-reads
 
 -- src/compare.rt:70:23
 enum-told : tie.Need-enum-told

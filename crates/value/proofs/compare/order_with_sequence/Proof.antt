@@ -1,13 +1,9 @@
 use Rattle.value.proofs.Ordering as law
 use Rattle.value.specs.Compare.{orderOfScalars}
 use Rattle.value.specs.Item.{itemValue}
-use mathlib.Core.Path.{_≡_, refl, _∙_}
 use borrow.Author.Needs.{needs}
 use Rattle.value.proofs.compare.order_with_sequence.Statement.{statement}
 use Rattle.value.proofs.compare.order_with_sequence.Tie as tie
-use Rattle.value.proofs.compare.order_with_sequence.Reads as reads
-use Rattle.value.proofs.compare.order_with_sequence.Lts as lts
-use Rattle.value.proofs.compare.order_of_sequences.Reads as order-of-sequences-reads
 
 -- src/compare.rt:111:23
 enum-told : tie.Need-enum-told

@@ -1,13 +1,10 @@
 use Rattle.value.proofs.Ordering as law
 use Rattle.value.specs.Compare.{orderOfScalars}
 use Rattle.value.specs.Item.{itemValue}
-use mathlib.Core.Path.{_≡_, refl, _∙_}
+use mathlib.Core.Path.{_∙_}
 use borrow.Author.Needs.{needs}
 use Rattle.value.proofs.compare.order_with_truth.Statement.{statement}
 use Rattle.value.proofs.compare.order_with_truth.Tie as tie
-use Rattle.value.proofs.compare.order_with_truth.Reads as reads
-use Rattle.value.proofs.compare.order_with_truth.Lts as lts
-use Rattle.value.proofs.compare.order_of_truths.Reads as order-of-truths-reads
 
 -- src/compare.rt:44:23
 enum-told : tie.Need-enum-told

@@ -1,13 +1,10 @@
 use Rattle.value.proofs.Ordering as law
 use Rattle.value.specs.Compare.{orderOfScalars}
 use Rattle.value.specs.Item.{itemValue}
-use mathlib.Core.Path.{_≡_, refl, _∙_}
+use mathlib.Core.Path.{_∙_}
 use borrow.Author.Needs.{needs}
 use Rattle.value.proofs.compare.order_with_whole.Statement.{statement}
 use Rattle.value.proofs.compare.order_with_whole.Tie as tie
-use Rattle.value.proofs.compare.order_with_whole.Reads as reads
-use Rattle.value.proofs.compare.order_with_whole.Lts as lts
-use Rattle.base.proofs.integer.order_of_whole.Reads as order-of-whole-reads
 
 -- src/compare.rt:57:23
 enum-told : tie.Need-enum-told

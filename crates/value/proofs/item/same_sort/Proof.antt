@@ -1,9 +1,6 @@
 use borrow.Author.Needs.{needs}
 use Rattle.value.proofs.item.same_sort.Statement.{statement}
 use Rattle.value.proofs.item.same_sort.Tie as tie
-use Rattle.value.proofs.item.same_sort.Reads as reads
-use Rattle.value.proofs.item.same_sort.Lts as lts
-use Rattle.value.proofs.item.sort_number.Reads as sort-number-reads
 
 -- src/item.rt:45:5
 sort-number-requires : tie.Need-sort-number-requires

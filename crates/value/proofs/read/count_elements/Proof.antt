@@ -1,19 +1,14 @@
-use mathlib.Core.Path.{_≡_, refl, ap, _∙_}
+use mathlib.Core.Path.{_≡_}
 use Rattle.value.proofs.Reading as law
 use Prim.Native.Nat.{_+_, _-_, _≤_}
-use mathlib.Core.Option.{none}
-use lib.ListN.{length, getD}
+use lib.ListN.{length}
 use Rattle.record.specs.Record.{records}
 use Rattle.record.proofs.Reach as reach
 use Rattle.instance.specs.Conforms.{count}
-use Rattle.instance.specs.Value.{elements}
 use native.Mathlib.Omega.{arith}
 use borrow.Author.Needs.{needs}
 use Rattle.value.proofs.read.count_elements.Statement.{statement}
 use Rattle.value.proofs.read.count_elements.Tie as tie
-use Rattle.value.proofs.read.count_elements.Reads as reads
-use Rattle.value.proofs.read.count_elements.Lts as lts
-use Rattle.record.proofs.read.record_at.Reads as record-at-reads
 
 abbrev Inv-loop : tie.InvT-loop
 Inv-loop s at₀ n₀ at n = (count (records s 0) ≡ n + count (records s at)) × (n ≤ at)

@@ -1,12 +1,7 @@
-use mathlib.Core.Path.{_≡_, refl, ap, _∙_}
 use Rattle.value.proofs.Reading as law
 use borrow.Author.Needs.{needs}
 use Rattle.value.proofs.read.item_at.Statement.{statement}
 use Rattle.value.proofs.read.item_at.Tie as tie
-use Rattle.value.proofs.read.item_at.Reads as reads
-use Rattle.value.proofs.read.item_at.Lts as lts
-use Rattle.record.proofs.read.record_at.Reads as record-at-reads
-use Rattle.value.proofs.read.read_item.Reads as read-item-reads
 
 -- src/read.rt:89:11
 record-at-requires : tie.Need-record-at-requires

@@ -1,19 +1,9 @@
-use mathlib.Core.Path.{_≡_, refl, ap, _∙_}
-use Rattle.value.proofs.Reading as law
 use Rattle.instance.specs.Value.{familyValue}
 use Rattle.value.specs.Unit.{unitsFrom}
 use Rattle.value.specs.Item.{listed, itemValue}
 use borrow.Author.Needs.{needs}
 use Rattle.value.proofs.read.read_family.Statement.{statement}
 use Rattle.value.proofs.read.read_family.Tie as tie
-use Rattle.value.proofs.read.read_family.Reads as reads
-use Rattle.value.proofs.read.read_family.Lts as lts
-use Rattle.base.proofs.bytes.byte_at.Reads as byte-at-reads
-use Rattle.base.proofs.bytes.piece.Reads as piece-reads
-use Rattle.datetime.proofs.read.read_datetime.Reads as read-datetime-reads
-use Rattle.value.proofs.read.read_real.Reads as read-real-reads
-use Rattle.value.proofs.read.read_whole.Reads as read-whole-reads
-use Rattle.value.proofs.read.sequence_of.Reads as sequence-of-reads
 
 -- src/read.rt:61:9
 piece-requires : tie.Need-piece-requires

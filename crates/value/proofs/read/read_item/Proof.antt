@@ -1,11 +1,7 @@
-use mathlib.Core.Path.{_≡_, refl, ap, _∙_}
 use Rattle.value.proofs.Reading as law
 use borrow.Author.Needs.{needs}
 use Rattle.value.proofs.read.read_item.Statement.{statement}
 use Rattle.value.proofs.read.read_item.Tie as tie
-use Rattle.value.proofs.read.read_item.Reads as reads
-use Rattle.value.proofs.read.read_item.Lts as lts
-use Rattle.value.proofs.read.read_family.Reads as read-family-reads
 
 -- src/read.rt:79:9
 returns : tie.Need-returns

@@ -1,12 +1,7 @@
-use mathlib.Core.Path.{_≡_, refl, ap, _∙_}
-use Rattle.value.proofs.Reading as law
+use mathlib.Core.Path.{_∙_}
 use borrow.Author.Needs.{needs}
 use Rattle.value.proofs.read.read_real.Statement.{statement}
 use Rattle.value.proofs.read.read_real.Tie as tie
-use Rattle.value.proofs.read.read_real.Reads as reads
-use Rattle.value.proofs.read.read_real.Lts as lts
-use Rattle.real.proofs.bits.real32_in.Reads as real32-in-reads
-use Rattle.real.proofs.bits.real64_in.Reads as real64-in-reads
 
 -- src/read.rt:41:9
 real32-in-requires : tie.Need-real32-in-requires

@@ -1,12 +1,7 @@
-use mathlib.Core.Path.{_≡_, refl, ap, _∙_}
-use Rattle.value.proofs.Reading as law
+use mathlib.Core.Path.{_∙_}
 use borrow.Author.Needs.{needs}
 use Rattle.value.proofs.read.read_whole.Statement.{statement}
 use Rattle.value.proofs.read.read_whole.Tie as tie
-use Rattle.value.proofs.read.read_whole.Reads as reads
-use Rattle.value.proofs.read.read_whole.Lts as lts
-use Rattle.base.proofs.integer.signed_in.Reads as signed-in-reads
-use Rattle.base.proofs.integer.unsigned_in.Reads as unsigned-in-reads
 
 -- src/read.rt:32:9
 signed-in-requires : tie.Need-signed-in-requires

@@ -1,11 +1,8 @@
-use Rattle.value.proofs.Laws as law
 use native.Mathlib.Omega.{arith}
 use mathlib.Core.Path.{_≡_}
 use borrow.Author.Needs.{needs}
 use Rattle.value.proofs.unit.byte_of_four.Statement.{statement}
 use Rattle.value.proofs.unit.byte_of_four.Tie as tie
-use Rattle.value.proofs.unit.byte_of_four.Reads as reads
-use Rattle.value.proofs.unit.byte_of_four.Lts as lts
 
 -- src/unit.rt:114:16
 add-result : tie.Need-add-result

@@ -1,11 +1,8 @@
-use Rattle.value.proofs.Laws as law
 use native.Mathlib.Omega.{arith}
 use mathlib.Core.Path.{_≡_}
 use borrow.Author.Needs.{needs}
 use Rattle.value.proofs.unit.byte_of_two.Statement.{statement}
 use Rattle.value.proofs.unit.byte_of_two.Tie as tie
-use Rattle.value.proofs.unit.byte_of_two.Reads as reads
-use Rattle.value.proofs.unit.byte_of_two.Lts as lts
 
 -- src/unit.rt:91:16
 add-result : tie.Need-add-result

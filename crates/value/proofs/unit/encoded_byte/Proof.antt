@@ -1,14 +1,7 @@
 use borrow.Author.Needs.{needs}
 use Rattle.value.proofs.Laws as law
-use native.Mathlib.Omega.{arith}
-use mathlib.Core.Path.{_≡_}
 use Rattle.value.proofs.unit.encoded_byte.Statement.{statement}
 use Rattle.value.proofs.unit.encoded_byte.Tie as tie
-use Rattle.value.proofs.unit.encoded_byte.Reads as reads
-use Rattle.value.proofs.unit.encoded_byte.Lts as lts
-use Rattle.value.proofs.unit.byte_of_four.Reads as byte-of-four-reads
-use Rattle.value.proofs.unit.byte_of_three.Reads as byte-of-three-reads
-use Rattle.value.proofs.unit.byte_of_two.Reads as byte-of-two-reads
 
 -- src/unit.rt:146:9
 returns : tie.Need-returns

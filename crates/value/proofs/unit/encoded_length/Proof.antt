@@ -1,11 +1,7 @@
 use borrow.Author.Needs.{needs}
 use Rattle.value.proofs.Laws as law
-use native.Mathlib.Omega.{arith}
-use mathlib.Core.Path.{_≡_}
 use Rattle.value.proofs.unit.encoded_length.Statement.{statement}
 use Rattle.value.proofs.unit.encoded_length.Tie as tie
-use Rattle.value.proofs.unit.encoded_length.Reads as reads
-use Rattle.value.proofs.unit.encoded_length.Lts as lts
 
 -- src/unit.rt:129:9
 returns : tie.Need-returns

@@ -2,9 +2,6 @@ use Rattle.value.proofs.Laws as law
 use borrow.Author.Needs.{needs}
 use Rattle.value.proofs.unit.next_byte.Statement.{statement}
 use Rattle.value.proofs.unit.next_byte.Tie as tie
-use Rattle.value.proofs.unit.next_byte.Reads as reads
-use Rattle.value.proofs.unit.next_byte.Lts as lts
-use Rattle.base.proofs.bytes.widen.Reads as widen-reads
 
 -- src/unit.rt:37:33
 shared-slice-read-widen : tie.Need-shared-slice-read-widen

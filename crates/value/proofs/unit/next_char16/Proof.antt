@@ -2,9 +2,6 @@ use Rattle.value.proofs.Laws as law
 use borrow.Author.Needs.{needs}
 use Rattle.value.proofs.unit.next_char16.Statement.{statement}
 use Rattle.value.proofs.unit.next_char16.Tie as tie
-use Rattle.value.proofs.unit.next_char16.Reads as reads
-use Rattle.value.proofs.unit.next_char16.Lts as lts
-use Rattle.record.proofs.read.number_at.Reads as number-at-reads
 
 -- src/unit.rt:56:27
 number-at-requires : tie.Need-number-at-requires

@@ -3,10 +3,6 @@ use native.Mathlib.Omega.{arith}
 use borrow.Author.Needs.{needs}
 use Rattle.value.proofs.unit.next_character.Statement.{statement}
 use Rattle.value.proofs.unit.next_character.Tie as tie
-use Rattle.value.proofs.unit.next_character.Reads as reads
-use Rattle.value.proofs.unit.next_character.Lts as lts
-use Rattle.unicode.proofs.scalar.scalar_at.Reads as scalar-at-reads
-use Rattle.unicode.proofs.sequence.sequence_at.Reads as sequence-at-reads
 
 -- src/unit.rt:45:9
 sequence-at-requires : tie.Need-sequence-at-requires

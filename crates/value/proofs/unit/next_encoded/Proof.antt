@@ -1,15 +1,8 @@
 use Rattle.value.proofs.Laws as law
 use Rattle.string_literal.proofs.Laws.{moved}
-use native.Mathlib.Omega.{arith}
-use mathlib.Core.Path.{_≡_}
 use borrow.Author.Needs.{needs}
 use Rattle.value.proofs.unit.next_encoded.Statement.{statement}
 use Rattle.value.proofs.unit.next_encoded.Tie as tie
-use Rattle.value.proofs.unit.next_encoded.Reads as reads
-use Rattle.value.proofs.unit.next_encoded.Lts as lts
-use Rattle.string_literal.proofs.char_in_string.Reads as char-in-string-reads
-use Rattle.value.proofs.unit.encoded_byte.Reads as encoded-byte-reads
-use Rattle.value.proofs.unit.encoded_length.Reads as encoded-length-reads
 
 -- src/unit.rt:160:11
 char-in-string-requires : tie.Need-char-in-string-requires

@@ -2,9 +2,6 @@ use Rattle.value.proofs.Laws as law
 use borrow.Author.Needs.{needs}
 use Rattle.value.proofs.unit.next_pair.Statement.{statement}
 use Rattle.value.proofs.unit.next_pair.Tie as tie
-use Rattle.value.proofs.unit.next_pair.Reads as reads
-use Rattle.value.proofs.unit.next_pair.Lts as lts
-use Rattle.base.proofs.digit.digit_of.Reads as digit-of-reads
 
 -- src/unit.rt:65:9
 returns : tie.Need-returns

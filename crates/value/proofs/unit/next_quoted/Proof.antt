@@ -2,9 +2,6 @@ use Rattle.value.proofs.Laws as law
 use borrow.Author.Needs.{needs}
 use Rattle.value.proofs.unit.next_quoted.Statement.{statement}
 use Rattle.value.proofs.unit.next_quoted.Tie as tie
-use Rattle.value.proofs.unit.next_quoted.Reads as reads
-use Rattle.value.proofs.unit.next_quoted.Lts as lts
-use Rattle.string_literal.proofs.char_in_string.Reads as char-in-string-reads
 
 -- src/unit.rt:78:11
 char-in-string-requires : tie.Need-char-in-string-requires

@@ -1,14 +1,6 @@
 use borrow.Author.Needs.{needs}
 use Rattle.value.proofs.unit.next_unit.Statement.{statement}
 use Rattle.value.proofs.unit.next_unit.Tie as tie
-use Rattle.value.proofs.unit.next_unit.Reads as reads
-use Rattle.value.proofs.unit.next_unit.Lts as lts
-use Rattle.value.proofs.unit.next_byte.Reads as next-byte-reads
-use Rattle.value.proofs.unit.next_char16.Reads as next-char16-reads
-use Rattle.value.proofs.unit.next_character.Reads as next-character-reads
-use Rattle.value.proofs.unit.next_encoded.Reads as next-encoded-reads
-use Rattle.value.proofs.unit.next_pair.Reads as next-pair-reads
-use Rattle.value.proofs.unit.next_quoted.Reads as next-quoted-reads
 
 -- src/unit.rt:182:24
 enum-told : tie.Need-enum-told

@@ -6,9 +6,6 @@ use Rattle.value.specs.Unit.{unitsFrom}
 use Rattle.value.proofs.Laws as law
 use Rattle.value.proofs.unit.same_units.Statement.{statement}
 use Rattle.value.proofs.unit.same_units.Tie as tie
-use Rattle.value.proofs.unit.same_units.Reads as reads
-use Rattle.value.proofs.unit.same_units.Lts as lts
-use Rattle.value.proofs.unit.next_unit.Reads as next-unit-reads
 
 abbrev Inv-loop : tie.InvT-loop
 Inv-loop a i b j left₀ at₀ right₀ beside₀ left at right beside = sameBytes (unitsFrom left₀ a i) (unitsFrom right₀ b j) ≡ sameBytes (unitsFrom left a at) (unitsFrom right b beside)

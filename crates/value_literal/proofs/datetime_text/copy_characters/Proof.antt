@@ -1,5 +1,5 @@
 use Prim.Native.Nat.{_≤_, _-_}
-use mathlib.Core.Path.{_≡_, refl, sym, _∙_}
+use mathlib.Core.Path.{_≡_, refl}
 use mathlib.Core.List.{_++_}
 use native.Mathlib.Omega.{arith}
 use lib.ListN.{length, take}
@@ -10,9 +10,6 @@ use Rattle.value_literal.proofs.Ascii as law
 use borrow.Author.Needs.{needs}
 use Rattle.value_literal.proofs.datetime_text.copy_characters.Statement.{statement}
 use Rattle.value_literal.proofs.datetime_text.copy_characters.Tie as tie
-use Rattle.value_literal.proofs.datetime_text.copy_characters.Reads as reads
-use Rattle.value_literal.proofs.datetime_text.copy_characters.Lts as lts
-use Rattle.string_literal.proofs.char_in_string.Reads as char-in-string-reads
 
 abbrev Inv-loop : tie.InvT-loop
 Inv-loop q at out₀ i₀ n₀ out i n = (charactersOf (textAt q at) ≡ take n out ++ charactersOf (textAt q i)) × (n ≤ 25) × (length out ≡ 25)

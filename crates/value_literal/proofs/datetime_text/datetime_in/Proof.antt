@@ -2,11 +2,6 @@ use Rattle.value_literal.proofs.Ascii as law
 use borrow.Author.Needs.{needs}
 use Rattle.value_literal.proofs.datetime_text.datetime_in.Statement.{statement}
 use Rattle.value_literal.proofs.datetime_text.datetime_in.Tie as tie
-use Rattle.value_literal.proofs.datetime_text.datetime_in.Reads as reads
-use Rattle.value_literal.proofs.datetime_text.datetime_in.Lts as lts
-use Rattle.base.proofs.bytes.piece.Reads as piece-reads
-use Rattle.datetime.proofs.read.read_datetime.Reads as read-datetime-reads
-use Rattle.value_literal.proofs.datetime_text.copy_characters.Reads as copy-characters-reads
 
 -- src/datetime_text.rt:48:34
 slice-aggregate-copy-characters : tie.Need-slice-aggregate-copy-characters
