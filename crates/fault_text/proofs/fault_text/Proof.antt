@@ -3,59 +3,45 @@ use borrow.Author.Needs.{needs}
 use Rattle.fault_text.proofs.fault_text.Statement.{statement}
 use Rattle.fault_text.proofs.fault_text.Tie as tie
 
--- src/lib.rt:50:11
 shown-of-requires : tie.Need-shown-of-requires
 shown-of-requires c κs = search needs
 
--- src/lib.rt:51:27
 enum-told : tie.Need-enum-told
 enum-told c = search needs
 
--- src/lib.rt:51:27
 slice-aggregate-result : tie.Need-slice-aggregate-result
 slice-aggregate-result c = search needs
 
--- src/lib.rt:52:25
 enum-told-2 : tie.Need-enum-told-2
 enum-told-2 c = search needs
 
--- src/lib.rt:52:25
 sub-result : tie.Need-sub-result
 sub-result c = search law.query-inside
 
--- src/lib.rt:52:25
 part-result-start : tie.Need-part-result-start
 part-result-start c = search law.query-inside
 
--- src/lib.rt:52:25
 part-result-end : tie.Need-part-result-end
 part-result-end c = search needs
 
--- src/lib.rt:53:25
 enum-told-3 : tie.Need-enum-told-3
 enum-told-3 c = search needs
 
--- src/lib.rt:53:25
 sub-result-2 : tie.Need-sub-result-2
 sub-result-2 c = search law.table-inside
 
--- src/lib.rt:53:25
 part-result-start-2 : tie.Need-part-result-start-2
 part-result-start-2 c = search law.table-inside
 
--- src/lib.rt:53:25
 part-result-end-2 : tie.Need-part-result-end-2
 part-result-end-2 c = search needs
 
--- src/lib.rt:47:1
 returns : tie.Need-returns
 returns c = search law.nothing-shown
 
--- src/lib.rt:47:1
 returns-2 : tie.Need-returns-2
 returns-2 c = search law.query-shown
 
--- src/lib.rt:47:1
 returns-3 : tie.Need-returns-3
 returns-3 c = search law.table-shown
 

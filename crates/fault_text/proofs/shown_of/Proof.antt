@@ -3,31 +3,24 @@ use borrow.Author.Needs.{needs}
 use Rattle.fault_text.proofs.shown_of.Statement.{statement}
 use Rattle.fault_text.proofs.shown_of.Tie as tie
 
--- src/lib.rt:37:8
 shows-table-requires : tie.Need-shows-table-requires
 shows-table-requires c κs = search needs
 
--- src/lib.rt:38:9
 unless-past-requires : tie.Need-unless-past-requires
 unless-past-requires c κs = search needs
 
--- src/lib.rt:38:9
 returns : tie.Need-returns
 returns c = search law.shows-table
 
--- src/lib.rt:40:8
 shows-query-requires : tie.Need-shows-query-requires
 shows-query-requires c κs = search needs
 
--- src/lib.rt:41:9
 unless-past-requires-2 : tie.Need-unless-past-requires-2
 unless-past-requires-2 c κs = search needs
 
--- src/lib.rt:41:9
 returns-2 : tie.Need-returns-2
 returns-2 c = search law.shows-query
 
--- src/lib.rt:34:1
 returns-3 : tie.Need-returns-3
 returns-3 c = search law.shows-nothing
 

@@ -3,27 +3,21 @@ use borrow.Author.Needs.{needs}
 use Rattle.fql.proofs.print_output.Statement.{statement}
 use Rattle.fql.proofs.print_output.Tie as tie
 
--- src/main.rt:41:9
 write-output-requires : tie.Need-write-output-requires
 write-output-requires c κs = search needs
 
--- src/main.rt:42:34
 slice-reshare-prefix-write-all : tie.Need-slice-reshare-prefix-write-all
 slice-reshare-prefix-write-all c = search needs
 
--- src/main.rt:42:34
 slice-aggregate-write-all : tie.Need-slice-aggregate-write-all
 slice-aggregate-write-all c = simp length-take (search needs)
 
--- src/main.rt:42:5
 write-all-requires : tie.Need-write-all-requires
 write-all-requires c κs = search needs
 
--- src/main.rt:40:1
 same-length : tie.Need-same-length
 same-length c = search needs
 
--- src/main.rt:40:1
 returns : tie.Need-returns
 returns c = search needs
 

@@ -3,31 +3,24 @@ use borrow.Author.Needs.{needs}
 use Rattle.fql_export.proofs.answer_of.Statement.{statement}
 use Rattle.fql_export.proofs.answer_of.Tie as tie
 
--- src/lib.rt:50:26
 enum-known-a : tie.Need-enum-known-a
 enum-known-a c = search needs
 
--- src/lib.rt:56:26
 enum-known-a-2 : tie.Need-enum-known-a-2
 enum-known-a-2 c = search needs
 
--- src/lib.rt:62:25
 enum-known-a-3 : tie.Need-enum-known-a-3
 enum-known-a-3 c = search needs
 
--- src/lib.rt:65:25
 number-of-requires : tie.Need-number-of-requires
 number-of-requires c κs = search needs
 
--- src/lib.rt:46:1
 returns : tie.Need-returns
 returns c = search law.answer-included
 
--- src/lib.rt:46:1
 returns-2 : tie.Need-returns-2
 returns-2 c = search law.answer-excluded
 
--- src/lib.rt:46:1
 returns-3 : tie.Need-returns-3
 returns-3 c = search law.answer-refused
 

@@ -3,15 +3,12 @@ use borrow.Author.Needs.{needs}
 use Rattle.fql_export.proofs.fql_check.Statement.{statement}
 use Rattle.fql_export.proofs.fql_check.Tie as tie
 
--- src/lib.rt:78:16
 check-requires : tie.Need-check-requires
 check-requires c κs = search needs
 
--- src/lib.rt:78:5
 refusal-of-requires : tie.Need-refusal-of-requires
 refusal-of-requires c κs = search needs
 
--- src/lib.rt:74:1
 returns : tie.Need-returns
 returns c = search law.of-check
 

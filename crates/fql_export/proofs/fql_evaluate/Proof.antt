@@ -3,15 +3,12 @@ use borrow.Author.Needs.{needs}
 use Rattle.fql_export.proofs.fql_evaluate.Statement.{statement}
 use Rattle.fql_export.proofs.fql_evaluate.Tie as tie
 
--- src/lib.rt:85:15
 evaluate-requires : tie.Need-evaluate-requires
 evaluate-requires c κs = search needs
 
--- src/lib.rt:85:5
 answer-of-requires : tie.Need-answer-of-requires
 answer-of-requires c κs = search needs
 
--- src/lib.rt:81:1
 returns : tie.Need-returns
 returns c = search law.of-evaluate
 

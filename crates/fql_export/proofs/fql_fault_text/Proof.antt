@@ -4,39 +4,30 @@ use borrow.Author.Needs.{needs}
 use Rattle.fql_export.proofs.fql_fault_text.Statement.{statement}
 use Rattle.fql_export.proofs.fql_fault_text.Tie as tie
 
--- src/lib.rt:163:11
 shown-of-requires : tie.Need-shown-of-requires
 shown-of-requires c κs = search needs
 
--- src/lib.rt:164:27
 enum-told : tie.Need-enum-told
 enum-told c = search needs
 
--- src/lib.rt:172:21
 enum-told-2 : tie.Need-enum-told-2
 enum-told-2 c = search needs
 
--- src/lib.rt:172:21
 sub-t13 : tie.Need-sub-t13
 sub-t13 c = search shown.query-inside
 
--- src/lib.rt:177:21
 enum-told-3 : tie.Need-enum-told-3
 enum-told-3 c = search needs
 
--- src/lib.rt:177:21
 sub-t16 : tie.Need-sub-t16
 sub-t16 c = search shown.table-inside
 
--- src/lib.rt:154:1
 returns : tie.Need-returns
 returns c = search law.part-none
 
--- src/lib.rt:154:1
 returns-2 : tie.Need-returns-2
 returns-2 c = search law.part-query
 
--- src/lib.rt:154:1
 returns-3 : tie.Need-returns-3
 returns-3 c = search law.part-table
 

@@ -3,19 +3,15 @@ use borrow.Author.Needs.{needs}
 use Rattle.fql_export.proofs.fql_mark.Statement.{statement}
 use Rattle.fql_export.proofs.fql_mark.Tie as tie
 
--- src/lib.rt:150:15
 mark-requires : tie.Need-mark-requires
 mark-requires c κs = search needs
 
--- src/lib.rt:150:5
 totals-of-requires : tie.Need-totals-of-requires
 totals-of-requires c κs = search needs
 
--- src/lib.rt:141:1
 same-length : tie.Need-same-length
 same-length c = search needs
 
--- src/lib.rt:141:1
 returns : tie.Need-returns
 returns c = (search law.of-mark, search needs, search needs)
 

@@ -3,23 +3,18 @@ use borrow.Author.Needs.{needs}
 use Rattle.fql_export.proofs.refusal_of.Statement.{statement}
 use Rattle.fql_export.proofs.refusal_of.Tie as tie
 
--- src/lib.rt:32:30
 enum-told : tie.Need-enum-told
 enum-told c = search needs
 
--- src/lib.rt:36:26
 enum-known-c : tie.Need-enum-known-c
 enum-known-c c = search needs
 
--- src/lib.rt:39:25
 number-of-requires : tie.Need-number-of-requires
 number-of-requires c κs = search needs
 
--- src/lib.rt:28:1
 returns : tie.Need-returns
 returns c = search law.refusal-none
 
--- src/lib.rt:28:1
 returns-2 : tie.Need-returns-2
 returns-2 c = search law.refusal-some
 

@@ -3,31 +3,24 @@ use borrow.Author.Needs.{needs}
 use Rattle.judge.proofs.judge.Statement.{statement}
 use Rattle.judge.proofs.judge.Tie as tie
 
--- src/lib.rt:109:11
 find-named-requires : tie.Need-find-named-requires
 find-named-requires c κs = search needs
 
--- src/lib.rt:110:40
 enum-told : tie.Need-enum-told
 enum-told c = search needs
 
--- src/lib.rt:111:27
 enum-known-number : tie.Need-enum-known-number
 enum-known-number c = search needs
 
--- src/lib.rt:111:74
 start-of-requires : tie.Need-start-of-requires
 start-of-requires c κs = search needs
 
--- src/lib.rt:111:45
 judge-kind-requires : tie.Need-judge-kind-requires
 judge-kind-requires c κs = search needs
 
--- src/lib.rt:103:1
 returns : tie.Need-returns
 returns c = search law.left-absent
 
--- src/lib.rt:103:1
 returns-2 : tie.Need-returns-2
 returns-2 c = search law.left-found
 

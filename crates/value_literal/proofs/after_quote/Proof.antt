@@ -3,15 +3,12 @@ use borrow.Author.Needs.{needs}
 use Rattle.value_literal.proofs.after_quote.Statement.{statement}
 use Rattle.value_literal.proofs.after_quote.Tie as tie
 
--- src/lib.rt:27:16
 add-result : tie.Need-add-result
 add-result c = search needs
 
--- src/lib.rt:27:9
 returns : tie.Need-returns
 returns c = rw (lt-ltb _ _ (c .if1 .taken))
 
--- src/lib.rt:23:1
 returns-2 : tie.Need-returns-2
 returns-2 c = rw (le-ltb _ _ (c .if1 .left))
 

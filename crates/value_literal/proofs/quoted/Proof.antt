@@ -3,11 +3,9 @@ use borrow.Author.Needs.{needs}
 use Rattle.value_literal.proofs.quoted.Statement.{statement}
 use Rattle.value_literal.proofs.quoted.Tie as tie
 
--- src/lib.rt:36:9
 after-quote-requires : tie.Need-after-quote-requires
 after-quote-requires c κs = search needs
 
--- src/lib.rt:33:1
 returns : tie.Need-returns
 returns c = search law.quoted-units
 

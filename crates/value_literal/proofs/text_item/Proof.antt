@@ -5,110 +5,85 @@ use borrow.Author.Needs.{needs}
 use Rattle.value_literal.proofs.text_item.Statement.{statement}
 use Rattle.value_literal.proofs.text_item.Tie as tie
 
--- src/lib.rt:76:35
 enum-told : tie.Need-enum-told
 enum-told c = search needs
 
--- src/lib.rt:76:28
 quoted-requires : tie.Need-quoted-requires
 quoted-requires c κs = search needs
 
--- src/lib.rt:77:35
 enum-told-2 : tie.Need-enum-told-2
 enum-told-2 c = search needs
 
--- src/lib.rt:77:28
 quoted-requires-2 : tie.Need-quoted-requires-2
 quoted-requires-2 c κs = search needs
 
--- src/lib.rt:78:32
 enum-told-3 : tie.Need-enum-told-3
 enum-told-3 c = search needs
 
--- src/lib.rt:78:25
 quoted-requires-3 : tie.Need-quoted-requires-3
 quoted-requires-3 c κs = search needs
 
--- src/lib.rt:79:32
 enum-told-4 : tie.Need-enum-told-4
 enum-told-4 c = search needs
 
--- src/lib.rt:79:25
 quoted-requires-4 : tie.Need-quoted-requires-4
 quoted-requires-4 c κs = search needs
 
--- src/lib.rt:80:34
 enum-told-5 : tie.Need-enum-told-5
 enum-told-5 c = search needs
 
--- src/lib.rt:80:27
 quoted-requires-5 : tie.Need-quoted-requires-5
 quoted-requires-5 c κs = search needs
 
--- src/lib.rt:81:34
 enum-told-6 : tie.Need-enum-told-6
 enum-told-6 c = search needs
 
--- src/lib.rt:81:27
 quoted-requires-6 : tie.Need-quoted-requires-6
 quoted-requires-6 c κs = search needs
 
--- src/lib.rt:82:81
 enum-told-7 : tie.Need-enum-told-7
 enum-told-7 c = search needs
 
--- src/lib.rt:82:81
 after-quote-requires : tie.Need-after-quote-requires
 after-quote-requires c κs = search needs
 
--- src/lib.rt:82:44
 datetime-in-requires : tie.Need-datetime-in-requires
 datetime-in-requires c κs = search needs
 
--- src/lib.rt:83:37
 enum-told-8 : tie.Need-enum-told-8
 enum-told-8 c = search needs
 
--- src/lib.rt:83:30
 quoted-requires-7 : tie.Need-quoted-requires-7
 quoted-requires-7 c κs = search needs
 
--- src/lib.rt:72:1
 returns : tie.Need-returns
 unfolding textValue
 returns c = rw (c .before .enum-told .given .1) (c .quoted .ensures ∙ law.quoted-text _ _)
 
--- src/lib.rt:72:1
 returns-2 : tie.Need-returns-2
 unfolding textValue
 returns-2 c = rw (c .before .enum-told2 .given .1) (c .quoted2 .ensures ∙ law.quoted-text _ _)
 
--- src/lib.rt:72:1
 returns-3 : tie.Need-returns-3
 unfolding textValue
 returns-3 c = rw (c .before .enum-told3 .given .1) (c .quoted3 .ensures ∙ law.quoted-text _ _)
 
--- src/lib.rt:72:1
 returns-4 : tie.Need-returns-4
 unfolding textValue
 returns-4 c = rw (c .before .enum-told4 .given .1) (c .quoted4 .ensures ∙ law.quoted-text _ _)
 
--- src/lib.rt:72:1
 returns-5 : tie.Need-returns-5
 unfolding textValue
 returns-5 c = rw (c .before .enum-told5 .given .1) (c .quoted5 .ensures ∙ law.quoted-text _ _)
 
--- src/lib.rt:72:1
 returns-6 : tie.Need-returns-6
 unfolding textValue
 returns-6 c = rw (c .before .enum-told6 .given .1) (c .quoted6 .ensures ∙ law.quoted-text _ _)
 
--- src/lib.rt:72:1
 returns-7 : tie.Need-returns-7
 unfolding textValue
 returns-7 c = rw (c .before .before .enum-told7 .given .1) (law.quoted-datetime _ _ _ (c .before .after-quote .ensures) _ (c .datetime-in .ensures))
 
--- src/lib.rt:72:1
 returns-8 : tie.Need-returns-8
 unfolding textValue
 returns-8 c = rw (c .before .enum-told8 .given .1) (c .quoted7 .ensures ∙ law.quoted-reference _ _)

@@ -3,15 +3,12 @@ use borrow.Author.Needs.{needs}
 use Rattle.base.proofs.bytes.byte_at.Statement.{statement}
 use Rattle.base.proofs.bytes.byte_at.Tie as tie
 
--- src/bytes.rt:11:16
 shared-slice-read-result : tie.Need-shared-slice-read-result
 shared-slice-read-result c = search needs
 
--- src/bytes.rt:11:9
 returns : tie.Need-returns
 returns c = search needs
 
--- src/bytes.rt:7:1
 returns-2 : tie.Need-returns-2
 returns-2 c = search byte-past
 

@@ -3,12 +3,10 @@ use borrow.Author.Tests.{le-leb, lt-leb}
 use Rattle.base.proofs.bytes.in_range.Statement.{statement}
 use Rattle.base.proofs.bytes.in_range.Tie as tie
 
--- src/bytes.rt:34:9
 returns : tie.Need-returns
 unfolding within
 returns c = simp (lt-leb _ _ (c .if1 .taken))
 
--- src/bytes.rt:30:1
 returns-2 : tie.Need-returns-2
 unfolding within
 returns-2 c = simp (le-leb _ _ (c .if1 .left))

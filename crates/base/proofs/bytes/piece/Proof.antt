@@ -3,51 +3,39 @@ use borrow.Author.Needs.{needs}
 use Rattle.base.proofs.bytes.piece.Statement.{statement}
 use Rattle.base.proofs.bytes.piece.Tie as tie
 
--- src/bytes.rt:21:9
 slice-aggregate-result : tie.Need-slice-aggregate-result
 slice-aggregate-result c = search needs
 
--- src/bytes.rt:21:9
 returns : tie.Need-returns
 returns c = part-past (c .before .before .args .s .now) (c .before .before .args .start) (c .before .before .args .len) (c .before .if1 .taken)
 
--- src/bytes.rt:23:8
 sub-if2 : tie.Need-sub-if2
 sub-if2 c = search needs
 
--- src/bytes.rt:24:16
 sub-result : tie.Need-sub-result
 sub-result c = search needs
 
--- src/bytes.rt:24:16
 part-result-start : tie.Need-part-result-start
 part-result-start c = search needs
 
--- src/bytes.rt:24:16
 part-result-end : tie.Need-part-result-end
 part-result-end c = search needs
 
--- src/bytes.rt:24:9
 returns-2 : tie.Need-returns-2
 returns-2 c = part-rest (c .before .before .before .args .s .now) (c .before .before .before .args .start) (c .before .before .before .args .len) (c .before .if2 .taken)
 
--- src/bytes.rt:26:15
 add-result : tie.Need-add-result
 add-result c = search needs
 
--- src/bytes.rt:26:5
 sub-result-2 : tie.Need-sub-result-2
 sub-result-2 c = search needs
 
--- src/bytes.rt:26:5
 part-result-start-2 : tie.Need-part-result-start-2
 part-result-start-2 c = search needs
 
--- src/bytes.rt:26:5
 part-result-end-2 : tie.Need-part-result-end-2
 part-result-end-2 c = search needs
 
--- src/bytes.rt:17:1
 returns-3 : tie.Need-returns-3
 returns-3 c = part-whole (c .before .before .before .args .s .now) (c .before .before .before .args .start) (c .before .before .before .args .len)
 

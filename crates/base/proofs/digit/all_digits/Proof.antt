@@ -14,40 +14,31 @@ Inv-loop base s at n i₀ i = (i ≤ n) × (allDigits base s at i ≡ true)
 abbrev μ-loop : tie.MeasureT-loop
 μ-loop base s at n i₀ i = n - i
 
--- src/digit.rt:43:5
 loop-holds : tie.Need-loop-holds Inv-loop μ-loop
 unfolding allDigits
 loop-holds c = (search needs, refl)
 
--- src/digit.rt:44:31
 add-digit-of : tie.Need-add-digit-of Inv-loop μ-loop
 add-digit-of c = search needs
 
--- src/digit.rt:44:29
 shared-slice-read-digit-of : tie.Need-shared-slice-read-digit-of Inv-loop μ-loop
 shared-slice-read-digit-of c = search needs
 
--- src/digit.rt:44:20
 digit-of-requires : tie.Need-digit-of-requires Inv-loop μ-loop
 digit-of-requires c κs = search needs
 
--- src/digit.rt:45:13
 returns : tie.Need-returns Inv-loop μ-loop
 returns c = digits-spoiled _ _ _ _ _ (c .before .before .before .loop-test .taken) (c .before .digit-of .ensures .0) (c .if1 .taken)
 
--- src/digit.rt:47:9
 add-i : tie.Need-add-i Inv-loop μ-loop
 add-i c = search needs
 
--- src/digit.rt:43:5
 loop-less : tie.Need-loop-less Inv-loop μ-loop
 loop-less c = search needs
 
--- src/digit.rt:43:5
 loop-again : tie.Need-loop-again Inv-loop μ-loop
 loop-again c = (search needs, digits-next _ _ _ _ (c .before .before .before .before .loop .inv .1) (c .before .digit-of .ensures .0) (c .if1 .left))
 
--- src/digit.rt:38:1
 returns-2 : tie.Need-returns-2 Inv-loop μ-loop
 returns-2 c = let e : c .before .loop .i ≡ c .before .before .before .args .n = omega arith in sym (rw e at (c .before .loop .inv .1))
 

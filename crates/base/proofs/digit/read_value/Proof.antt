@@ -13,58 +13,45 @@ Inv-loop base first s at n limit v₀ i₀ v i = (v ≡ valueOf base first s at 
 abbrev μ-loop : tie.MeasureT-loop
 μ-loop base first s at n limit v₀ i₀ v i = n - i
 
--- src/digit.rt:59:5
 loop-holds : tie.Need-loop-holds Inv-loop μ-loop
 unfolding valueOf
 loop-holds c = (refl, search needs, search needs)
 
--- src/digit.rt:60:28
 add-digit-of : tie.Need-add-digit-of Inv-loop μ-loop
 add-digit-of c = search needs
 
--- src/digit.rt:60:26
 shared-slice-read-digit-of : tie.Need-shared-slice-read-digit-of Inv-loop μ-loop
 shared-slice-read-digit-of c = search needs
 
--- src/digit.rt:60:13
 digit-of-requires : tie.Need-digit-of-requires Inv-loop μ-loop
 digit-of-requires c κs = search needs
 
--- src/digit.rt:61:13
 sub-if1 : tie.Need-sub-if1 Inv-loop μ-loop
 sub-if1 c = search needs
 
--- src/digit.rt:61:12
 div-if1 : tie.Need-div-if1 Inv-loop μ-loop
 div-if1 c = search needs
 
--- src/digit.rt:62:13
 returns : tie.Need-returns Inv-loop μ-loop
 returns c = let big = over-more _ _ _ _ ((c .before .before .before .before .before .before .pre) .1) (omega arith) (c .if1 .taken) in
     let e = value-next _ _ _ _ _ _ _ (c .before .before .before .before .loop .inv .0) (c .before .digit-of .ensures .0) in
     size-large _ _ _ big (rw e (value-grows _ _ _ _ _ _ ((c .before .before .before .before .before .before .pre) .1) (omega arith)))
 
--- src/digit.rt:64:13
 mul-v : tie.Need-mul-v Inv-loop μ-loop
 mul-v c = omega (arith, fits-more _ _ _ _ ((c .before .before .before .before .before .before .pre) .1) (omega arith) (c .if1 .left))
 
--- src/digit.rt:64:13
 add-v : tie.Need-add-v Inv-loop μ-loop
 add-v c = omega (arith, fits-more _ _ _ _ ((c .before .before .before .before .before .before .pre) .1) (omega arith) (c .if1 .left))
 
--- src/digit.rt:65:9
 add-i : tie.Need-add-i Inv-loop μ-loop
 add-i c = search needs
 
--- src/digit.rt:59:5
 loop-less : tie.Need-loop-less Inv-loop μ-loop
 loop-less c = search needs
 
--- src/digit.rt:59:5
 loop-again : tie.Need-loop-again Inv-loop μ-loop
 loop-again c = (value-next _ _ _ _ _ _ _ (c .before .before .before .before .loop .inv .0) (c .before .digit-of .ensures .0), search needs, fits-more _ _ _ _ ((c .before .before .before .before .before .before .pre) .1) (omega arith) (c .if1 .left))
 
--- src/digit.rt:53:1
 returns-2 : tie.Need-returns-2 Inv-loop μ-loop
 returns-2 c = let e : c .before .loop .i ≡ c .before .before .before .args .n = omega arith in size-fits _ _ _ (rw e at (c .before .loop .inv .0)) (c .before .loop .inv .2)
 

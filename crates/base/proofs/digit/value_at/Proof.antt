@@ -4,23 +4,18 @@ use borrow.Author.Needs.{needs}
 use Rattle.base.proofs.digit.value_at.Statement.{statement}
 use Rattle.base.proofs.digit.value_at.Tie as tie
 
--- src/digit.rt:75:11
 read-value-requires : tie.Need-read-value-requires
 read-value-requires c κs = search needs
 
--- src/digit.rt:76:20
 enum-known-v : tie.Need-enum-known-v
 enum-known-v c = search needs
 
--- src/digit.rt:77:27
 enum-told : tie.Need-enum-told
 enum-told c = search needs
 
--- src/digit.rt:71:1
 returns : tie.Need-returns
 returns c = fits-value _ _ (c .before .before .before .read-value .ensures) _ (c .before .v .given .1)
 
--- src/digit.rt:71:1
 returns-2 : tie.Need-returns-2
 returns-2 c = absurd (omega (arith, large-value _ _ (c .before .before .read-value .ensures) (c .enum-told .given .1), value-small (c .before .before .before .before .args .base) (c .before .before .before .before .args .s .now) (c .before .before .before .before .args .at) (c .before .before .before .before .args .n) ((c .before .before .before .before .pre) .2) ((c .before .before .before .before .pre) .3)))
 

@@ -13,31 +13,24 @@ Inv-loop n v₀ i₀ v i = (i ≤ n) × (v + 1 ≡ 256 ^ i)
 abbrev μ-loop : tie.MeasureT-loop
 μ-loop n v₀ i₀ v i = n - i
 
--- src/integer.rt:45:5
 loop-holds : tie.Need-loop-holds Inv-loop μ-loop
 loop-holds c = (search needs, omega (arith, pow-zero 256))
 
--- src/integer.rt:46:13
 mul-v : tie.Need-mul-v Inv-loop μ-loop
 mul-v c = omega (arith, room (c .before .loop .i) 7 (omega arith))
 
--- src/integer.rt:46:13
 add-v : tie.Need-add-v Inv-loop μ-loop
 add-v c = omega (arith, room (c .before .loop .i) 7 (omega arith))
 
--- src/integer.rt:47:9
 add-i : tie.Need-add-i Inv-loop μ-loop
 add-i c = search needs
 
--- src/integer.rt:45:5
 loop-less : tie.Need-loop-less Inv-loop μ-loop
 loop-less c = search needs
 
--- src/integer.rt:45:5
 loop-again : tie.Need-loop-again Inv-loop μ-loop
 loop-again c = (search needs, ones-more _ _ (c .before .loop .inv .1))
 
--- src/integer.rt:39:1
 returns : tie.Need-returns Inv-loop μ-loop
 returns c = let e : c .before .loop .i ≡ c .before .before .args .n = omega arith in rw e at (c .before .loop .inv .1)
 

@@ -2,43 +2,33 @@ use borrow.Author.Needs.{needs}
 use Rattle.base.proofs.integer.is_less.Statement.{statement}
 use Rattle.base.proofs.integer.is_less.Tie as tie
 
--- src/integer.rt:76:20
 enum-known-a : tie.Need-enum-known-a
 enum-known-a c = search needs
 
--- src/integer.rt:77:24
 enum-known-b : tie.Need-enum-known-b
 enum-known-b c = search needs
 
--- src/integer.rt:78:33
 enum-told : tie.Need-enum-told
 enum-told c = search needs
 
--- src/integer.rt:80:23
 enum-known-a-2 : tie.Need-enum-known-a-2
 enum-known-a-2 c = search needs
 
--- src/integer.rt:81:30
 enum-told-2 : tie.Need-enum-told-2
 enum-told-2 c = search needs
 
--- src/integer.rt:82:27
 enum-known-b-2 : tie.Need-enum-known-b-2
 enum-known-b-2 c = search needs
 
--- src/integer.rt:72:1
 returns : tie.Need-returns
 returns c = simp (c .before .before .before .before .a .given .1, c .before .b .given .1)
 
--- src/integer.rt:72:1
 returns-2 : tie.Need-returns-2
 returns-2 c = search needs
 
--- src/integer.rt:72:1
 returns-3 : tie.Need-returns-3
 returns-3 c = search needs
 
--- src/integer.rt:72:1
 returns-4 : tie.Need-returns-4
 returns-4 c = simp (c .before .before .before .before .a2 .given .1, c .before .b2 .given .1)
 

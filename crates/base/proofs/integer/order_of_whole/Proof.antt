@@ -3,23 +3,18 @@ use borrow.Author.Needs.{needs}
 use Rattle.base.proofs.integer.order_of_whole.Statement.{statement}
 use Rattle.base.proofs.integer.order_of_whole.Tie as tie
 
--- src/integer.rt:90:8
 is-less-requires : tie.Need-is-less-requires
 is-less-requires c κs = search needs
 
--- src/integer.rt:91:9
 returns : tie.Need-returns
 returns c = whole-before _ _ (c .before .is-less .ensures) (c .if1 .taken)
 
--- src/integer.rt:93:8
 is-less-requires-2 : tie.Need-is-less-requires-2
 is-less-requires-2 c κs = search needs
 
--- src/integer.rt:94:9
 returns-2 : tie.Need-returns-2
 returns-2 c = whole-after _ _ (c .before .before .before .is-less .ensures) (c .before .before .if1 .left) (c .before .is-less2 .ensures) (c .if2 .taken)
 
--- src/integer.rt:87:1
 returns-3 : tie.Need-returns-3
 returns-3 c = whole-same _ _ (c .before .before .before .is-less .ensures) (c .before .before .if1 .left) (c .before .is-less2 .ensures) (c .if2 .left)
 

@@ -6,27 +6,21 @@ use borrow.Author.Needs.{needs}
 use Rattle.base.proofs.integer.signed_in.Statement.{statement}
 use Rattle.base.proofs.integer.signed_in.Tie as tie
 
--- src/integer.rt:63:9
 piece-requires : tie.Need-piece-requires
 piece-requires c κs = search needs
 
--- src/integer.rt:64:9
 unsigned-of-requires : tie.Need-unsigned-of-requires
 unsigned-of-requires c κs = rw (c .piece .ensures) (part-short (c .before .before .args .s .now) 0 8)
 
--- src/integer.rt:65:9
 all-ones-requires : tie.Need-all-ones-requires
 all-ones-requires c κs = rw (c .before .piece .ensures) (part-short (c .before .before .before .args .s .now) 0 8)
 
--- src/integer.rt:67:9
 returns : tie.Need-returns
 returns c = signed-low _ _ (c .before .before .unsigned-of .ensures .0) (c .before .all-ones .ensures) (c .if1 .taken) ∙ ap twosComplement (c .before .before .before .piece .ensures)
 
--- src/integer.rt:69:19
 sub-t6 : tie.Need-sub-t6
 sub-t6 c = search needs
 
--- src/integer.rt:60:1
 returns-2 : tie.Need-returns-2
 returns-2 c = signed-high _ _ (c .before .before .unsigned-of .ensures .0) (c .before .all-ones .ensures) (c .if1 .left) (c .before .before .unsigned-of .ensures .1) ∙ ap twosComplement (c .before .before .before .piece .ensures)
 

@@ -5,15 +5,12 @@ use borrow.Author.Needs.{needs}
 use Rattle.base.proofs.integer.unsigned_in.Statement.{statement}
 use Rattle.base.proofs.integer.unsigned_in.Tie as tie
 
--- src/integer.rt:56:17
 piece-requires : tie.Need-piece-requires
 piece-requires c κs = search needs
 
--- src/integer.rt:56:5
 unsigned-of-requires : tie.Need-unsigned-of-requires
 unsigned-of-requires c κs = rw (c .piece .ensures) (part-short (c .before .before .args .s .now) 0 8)
 
--- src/integer.rt:53:1
 returns : tie.Need-returns
 returns c = c .unsigned-of .ensures .0 ∙ ap unsigned (c .before .piece .ensures)
 

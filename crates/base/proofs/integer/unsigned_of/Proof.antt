@@ -16,36 +16,28 @@ Inv-loop s v₀ i₀ v i = (i ≤ length s) × (v ≡ unsigned (drop i s)) × (v
 abbrev μ-loop : tie.MeasureT-loop
 μ-loop s v₀ i₀ v i = i
 
--- src/integer.rt:31:5
 loop-holds : tie.Need-loop-holds Inv-loop μ-loop
 unfolding unsigned
 loop-holds c = (omega arith, sym (ap unsigned (drop-length (c .before .args .s .now))), simp (sub-self (length (c .before .args .s .now))) (omega arith))
 
--- src/integer.rt:32:9
 sub-i : tie.Need-sub-i Inv-loop μ-loop
 sub-i c = search needs
 
--- src/integer.rt:33:13
 mul-v : tie.Need-mul-v Inv-loop μ-loop
 mul-v c = omega (arith, room (length (c .before .before .before .args .s .now) - c .before .loop .i) 7 (omega arith))
 
--- src/integer.rt:33:29
 shared-slice-read-widen : tie.Need-shared-slice-read-widen Inv-loop μ-loop
 shared-slice-read-widen c = search needs
 
--- src/integer.rt:33:23
 widen-requires : tie.Need-widen-requires Inv-loop μ-loop
 widen-requires c κs = search needs
 
--- src/integer.rt:33:13
 add-v : tie.Need-add-v Inv-loop μ-loop
 add-v c = omega (arith, room (length (c .before .before .before .before .before .args .s .now) - c .before .before .before .loop .i) 7 (omega arith))
 
--- src/integer.rt:31:5
 loop-less : tie.Need-loop-less Inv-loop μ-loop
 loop-less c = search needs
 
--- src/integer.rt:31:5
 loop-again : tie.Need-loop-again Inv-loop μ-loop
 loop-again c = let s = c .before .before .before .before .before .args .s .now in
     let i = c .before .before .before .loop .i in
@@ -54,7 +46,6 @@ loop-again c = let s = c .before .before .before .before .before .args .s .now i
     let n = rw e at (unsigned-next s (i - 1) (omega arith)) in
     (omega arith, omega (arith, n), rw k (one-more _ _ _ (c .before .before .before .loop .inv .2) (c .widen .ensures .1)))
 
--- src/integer.rt:25:1
 returns : tie.Need-returns Inv-loop μ-loop
 returns c = let z : c .before .loop .i ≡ 0 = omega arith in
     (rw z at (c .before .loop .inv .1), rw (z, sub-zero (length (c .before .before .before .args .s .now))) at (c .before .loop .inv .2))

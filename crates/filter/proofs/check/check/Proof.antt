@@ -3,27 +3,21 @@ use borrow.Author.Needs.{needs}
 use Rattle.filter.proofs.check.check.Statement.{statement}
 use Rattle.filter.proofs.check.check.Tie as tie
 
--- src/check.rt:93:11
 read-table-requires : tie.Need-read-table-requires
 read-table-requires c κs = search needs
 
--- src/check.rt:94:31
 enum-known-cause : tie.Need-enum-known-cause
 enum-known-cause c = search needs
 
--- src/check.rt:98:44
 enum-told : tie.Need-enum-told
 enum-told c = search needs
 
--- src/check.rt:98:44
 check-under-requires : tie.Need-check-under-requires
 check-under-requires c κs = search needs
 
--- src/check.rt:90:1
 returns : tie.Need-returns
 returns c = search law.table-refused
 
--- src/check.rt:90:1
 returns-2 : tie.Need-returns-2
 returns-2 c = search law.table-taken
 

@@ -3,15 +3,12 @@ use borrow.Author.Needs.{needs}
 use Rattle.filter.proofs.check.check_comparisons.Statement.{statement}
 use Rattle.filter.proofs.check.check_comparisons.Tie as tie
 
--- src/check.rt:69:9
 open-query-requires : tie.Need-open-query-requires
 open-query-requires c κs = search needs
 
--- src/check.rt:71:5
 check-from-requires : tie.Need-check-from-requires
 check-from-requires c κs = search law.begins-taken
 
--- src/check.rt:65:1
 returns : tie.Need-returns
 returns c = search law.begins-checked
 

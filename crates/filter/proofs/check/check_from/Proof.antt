@@ -14,63 +14,48 @@ Inv-loop q t grouped token₀ left₀ token left = (checkQuery q t (queryFrom le
 abbrev μ-loop : tie.MeasureT-loop
 μ-loop q t grouped token₀ left₀ token left = left
 
--- src/check.rt:45:5
 loop-holds : tie.Need-loop-holds Inv-loop μ-loop
 loop-holds c = search needs
 
--- src/check.rt:46:15
 read-next-requires : tie.Need-read-next-requires Inv-loop μ-loop
 read-next-requires c κs = search needs
 
--- src/check.rt:47:38
 enum-told : tie.Need-enum-told Inv-loop μ-loop
 enum-told c = search needs
 
--- src/check.rt:47:38
 returns : tie.Need-returns Inv-loop μ-loop
 returns c = search law.checked-none
 
--- src/check.rt:48:33
 enum-known-c : tie.Need-enum-known-c Inv-loop μ-loop
 enum-known-c c = search needs
 
--- src/check.rt:48:54
 check-comparison-requires : tie.Need-check-comparison-requires Inv-loop μ-loop
 check-comparison-requires c κs = search needs
 
--- src/check.rt:49:34
 enum-known-r : tie.Need-enum-known-r Inv-loop μ-loop
 enum-known-r c = search needs
 
--- src/check.rt:49:40
 returns-2 : tie.Need-returns-2 Inv-loop μ-loop
 returns-2 c = search law.checked-refused
 
--- src/check.rt:51:24
 enum-told-2 : tie.Need-enum-told-2 Inv-loop μ-loop
 enum-told-2 c = search needs
 
--- src/check.rt:51:24
 is-last-requires : tie.Need-is-last-requires Inv-loop μ-loop
 is-last-requires c κs = search needs
 
--- src/check.rt:52:25
 returns-3 : tie.Need-returns-3 Inv-loop μ-loop
 returns-3 c = search law.checked-last
 
--- src/check.rt:55:21
 sub-left : tie.Need-sub-left Inv-loop μ-loop
 sub-left c = search needs
 
--- src/check.rt:45:5
 loop-less : tie.Need-loop-less Inv-loop μ-loop
 loop-less c = search needs
 
--- src/check.rt:45:5
 loop-again : tie.Need-loop-again Inv-loop μ-loop
 loop-again c = (search law.checked-more, search law.taken-more)
 
--- src/check.rt:39:1
 returns-4 : tie.Need-returns-4 Inv-loop μ-loop
 returns-4 c = search law.checked-out
 

@@ -3,27 +3,21 @@ use borrow.Author.Needs.{needs}
 use Rattle.filter.proofs.check.check_under.Statement.{statement}
 use Rattle.filter.proofs.check.check_under.Tie as tie
 
--- src/check.rt:77:11
 check-text-requires : tie.Need-check-text-requires
 check-text-requires c κs = search needs
 
--- src/check.rt:78:26
 enum-known-f : tie.Need-enum-known-f
 enum-known-f c = search needs
 
--- src/check.rt:85:32
 enum-told : tie.Need-enum-told
 enum-told c = search needs
 
--- src/check.rt:85:32
 check-comparisons-requires : tie.Need-check-comparisons-requires
 check-comparisons-requires c κs = search law.taken-query
 
--- src/check.rt:74:1
 returns : tie.Need-returns
 returns c = search law.text-refused
 
--- src/check.rt:74:1
 returns-2 : tie.Need-returns-2
 returns-2 c = search law.text-taken
 

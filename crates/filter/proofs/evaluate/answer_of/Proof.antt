@@ -2,11 +2,9 @@ use Rattle.filter.proofs.Laws as law
 use Rattle.filter.proofs.evaluate.answer_of.Statement.{statement}
 use Rattle.filter.proofs.evaluate.answer_of.Tie as tie
 
--- src/evaluate.rt:102:9
 returns : tie.Need-returns
 returns c = search law.answer-true
 
--- src/evaluate.rt:98:1
 returns-2 : tie.Need-returns-2
 returns-2 c = search law.answer-false
 

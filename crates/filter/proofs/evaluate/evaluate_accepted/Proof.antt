@@ -3,31 +3,24 @@ use borrow.Author.Needs.{needs}
 use Rattle.filter.proofs.evaluate.evaluate_accepted.Statement.{statement}
 use Rattle.filter.proofs.evaluate.evaluate_accepted.Tie as tie
 
--- src/evaluate.rt:113:11
 check-instance-requires : tie.Need-check-instance-requires
 check-instance-requires c κs = search needs
 
--- src/evaluate.rt:114:29
 enum-known-cause : tie.Need-enum-known-cause
 enum-known-cause c = search needs
 
--- src/evaluate.rt:118:45
 enum-told : tie.Need-enum-told
 enum-told c = search needs
 
--- src/evaluate.rt:118:45
 walk-requires : tie.Need-walk-requires
 walk-requires c κs = search law.short
 
--- src/evaluate.rt:118:35
 answer-of-requires : tie.Need-answer-of-requires
 answer-of-requires c κs = search needs
 
--- src/evaluate.rt:109:1
 returns : tie.Need-returns
 returns c = search law.evaluate-nonconforming
 
--- src/evaluate.rt:109:1
 returns-2 : tie.Need-returns-2
 returns-2 c = search law.evaluate-answers
 

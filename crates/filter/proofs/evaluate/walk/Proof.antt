@@ -3,15 +3,12 @@ use borrow.Author.Needs.{needs}
 use Rattle.filter.proofs.evaluate.walk.Statement.{statement}
 use Rattle.filter.proofs.evaluate.walk.Tie as tie
 
--- src/evaluate.rt:93:9
 open-query-requires : tie.Need-open-query-requires
 open-query-requires c κs = search needs
 
--- src/evaluate.rt:95:5
 walk-from-requires : tie.Need-walk-from-requires
 walk-from-requires c κs = search needs
 
--- src/evaluate.rt:89:1
 returns : tie.Need-returns
 returns c = search walk-called
 

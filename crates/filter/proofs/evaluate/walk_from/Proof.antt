@@ -16,75 +16,57 @@ Inv-loop q t i grouped token₀ left₀ chains₀ steps₀ token left chains ste
 abbrev μ-loop : tie.MeasureT-loop
 μ-loop q t i grouped token₀ left₀ chains₀ steps₀ token left chains steps = left
 
--- src/evaluate.rt:58:9
 start-requires : tie.Need-start-requires Inv-loop μ-loop
 start-requires c κs = search needs
 
--- src/evaluate.rt:60:5
 loop-holds : tie.Need-loop-holds Inv-loop μ-loop
 loop-holds c = (search walk-first, search needs)
 
--- src/evaluate.rt:61:15
 read-next-requires : tie.Need-read-next-requires Inv-loop μ-loop
 read-next-requires c κs = search needs
 
--- src/evaluate.rt:63:17
 enum-told : tie.Need-enum-told Inv-loop μ-loop
 enum-told c = search needs
 
--- src/evaluate.rt:63:17
 returns : tie.Need-returns Inv-loop μ-loop
 returns c = search walk-none
 
--- src/evaluate.rt:68:33
 enum-known-c : tie.Need-enum-known-c Inv-loop μ-loop
 enum-known-c c = search needs
 
--- src/evaluate.rt:69:36
 is-live-requires : tie.Need-is-live-requires Inv-loop μ-loop
 is-live-requires c κs = search needs
 
--- src/evaluate.rt:69:21
 judge-if-requires : tie.Need-judge-if-requires Inv-loop μ-loop
 judge-if-requires c κs = search needs
 
--- src/evaluate.rt:70:20
 is-last-requires : tie.Need-is-last-requires Inv-loop μ-loop
 is-last-requires c κs = search needs
 
--- src/evaluate.rt:72:32
 finish-requires : tie.Need-finish-requires Inv-loop μ-loop
 finish-requires c κs = search needs
 
--- src/evaluate.rt:73:32
 add-t19 : tie.Need-add-t19 Inv-loop μ-loop
 add-t19 c = search needs
 
--- src/evaluate.rt:71:21
 returns-2 : tie.Need-returns-2 Inv-loop μ-loop
 returns-2 c = search walk-last
 
--- src/evaluate.rt:76:17
 advance-requires : tie.Need-advance-requires Inv-loop μ-loop
 advance-requires c κs = search needs
 
--- src/evaluate.rt:77:17
 add-steps : tie.Need-add-steps Inv-loop μ-loop
 add-steps c = omega (arith, c .before .before .before .before .before .before .before .before .before .before .before .loop .inv .1, c .before .before .before .before .judge-if .ensures .1, (c .before .before .before .before .before .before .before .before .before .before .before .before .before .before .before .before .pre))
 
--- src/evaluate.rt:79:17
 sub-left : tie.Need-sub-left Inv-loop μ-loop
 sub-left c = search needs
 
--- src/evaluate.rt:60:5
 loop-less : tie.Need-loop-less Inv-loop μ-loop
 loop-less c = search needs
 
--- src/evaluate.rt:60:5
 loop-again : tie.Need-loop-again Inv-loop μ-loop
 loop-again c = (search walk-more, omega (arith, c .before .before .before .before .before .before .before .before .before .before .before .loop .inv .1, c .before .before .before .before .judge-if .ensures .1, c .before .before .before .before .before .before .before .before .before .before .loop-test .taken, (c .before .before .before .before .before .before .before .before .before .before .before .before .before .before .before .before .pre)))
 
--- src/evaluate.rt:52:1
 returns-3 : tie.Need-returns-3 Inv-loop μ-loop
 returns-3 c = search walk-out
 

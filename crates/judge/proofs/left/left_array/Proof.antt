@@ -3,43 +3,33 @@ use borrow.Author.Needs.{needs}
 use Rattle.judge.proofs.left.left_array.Statement.{statement}
 use Rattle.judge.proofs.left.left_array.Tie as tie
 
--- src/left.rt:76:31
 enum-told : tie.Need-enum-told
 enum-told c = search needs
 
--- src/left.rt:77:29
 enum-told-2 : tie.Need-enum-told-2
 enum-told-2 c = search needs
 
--- src/left.rt:78:23
 enum-known-index : tie.Need-enum-known-index
 enum-known-index c = search needs
 
--- src/left.rt:78:39
 read-indexed-requires : tie.Need-read-indexed-requires
 read-indexed-requires c κs = search needs
 
--- src/left.rt:80:28
 enum-told-3 : tie.Need-enum-told-3
 enum-told-3 c = search needs
 
--- src/left.rt:81:30
 enum-told-4 : tie.Need-enum-told-4
 enum-told-4 c = search needs
 
--- src/left.rt:72:1
 returns : tie.Need-returns
 returns c = search law.array-whole
 
--- src/left.rt:72:1
 returns-2 : tie.Need-returns-2
 returns-2 c = search law.array-indexed
 
--- src/left.rt:72:1
 returns-3 : tie.Need-returns-3
 returns-3 c = search law.array-any
 
--- src/left.rt:72:1
 returns-4 : tie.Need-returns-4
 returns-4 c = search law.array-every
 

@@ -3,39 +3,30 @@ use borrow.Author.Needs.{needs}
 use Rattle.judge.proofs.left.left_scalar.Statement.{statement}
 use Rattle.judge.proofs.left.left_scalar.Tie as tie
 
--- src/left.rt:59:31
 enum-told : tie.Need-enum-told
 enum-told c = search needs
 
--- src/left.rt:61:25
 enum-told-2 : tie.Need-enum-told-2
 enum-told-2 c = search needs
 
--- src/left.rt:64:29
 enum-told-3 : tie.Need-enum-told-3
 enum-told-3 c = search needs
 
--- src/left.rt:66:28
 enum-told-4 : tie.Need-enum-told-4
 enum-told-4 c = search needs
 
--- src/left.rt:67:30
 enum-told-5 : tie.Need-enum-told-5
 enum-told-5 c = search needs
 
--- src/left.rt:55:1
 returns : tie.Need-returns
 returns c = search law.scalar-one
 
--- src/left.rt:55:1
 returns-2 : tie.Need-returns-2
 returns-2 c = search law.scalar-indexed
 
--- src/left.rt:55:1
 returns-3 : tie.Need-returns-3
 returns-3 c = search law.scalar-any
 
--- src/left.rt:55:1
 returns-4 : tie.Need-returns-4
 returns-4 c = search law.scalar-every
 

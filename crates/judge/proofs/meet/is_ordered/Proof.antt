@@ -3,19 +3,15 @@ use borrow.Author.Needs.{needs}
 use Rattle.judge.proofs.meet.is_ordered.Statement.{statement}
 use Rattle.judge.proofs.meet.is_ordered.Tie as tie
 
--- src/meet.rt:44:5
 same-row-requires : tie.Need-same-row-requires
 same-row-requires c κs = search needs
 
--- src/meet.rt:44:37
 same-row-requires-2 : tie.Need-same-row-requires-2
 same-row-requires-2 c κs = search needs
 
--- src/meet.rt:44:65
 same-row-requires-3 : tie.Need-same-row-requires-3
 same-row-requires-3 c κs = search needs
 
--- src/meet.rt:41:1
 returns : tie.Need-returns
 returns c = search law.ordered-by
 

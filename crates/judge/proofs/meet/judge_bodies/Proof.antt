@@ -3,19 +3,15 @@ use borrow.Author.Needs.{needs}
 use Rattle.judge.proofs.meet.judge_bodies.Statement.{statement}
 use Rattle.judge.proofs.meet.judge_bodies.Tie as tie
 
--- src/meet.rt:233:8
 is-equality-requires : tie.Need-is-equality-requires
 is-equality-requires c κs = search needs
 
--- src/meet.rt:234:30
 compare-bodies-requires : tie.Need-compare-bodies-requires
 compare-bodies-requires c κs = search needs
 
--- src/meet.rt:234:9
 returns : tie.Need-returns
 returns c = search law.bodies-told
 
--- src/meet.rt:221:1
 returns-2 : tie.Need-returns-2
 returns-2 c = search law.bodies-row
 

@@ -3,43 +3,33 @@ use borrow.Author.Needs.{needs}
 use Rattle.judge.proofs.meet.judge_elements.Statement.{statement}
 use Rattle.judge.proofs.meet.judge_elements.Tie as tie
 
--- src/meet.rt:188:9
 is-equality-requires : tie.Need-is-equality-requires
 is-equality-requires c κs = search needs
 
--- src/meet.rt:189:9
 returns : tie.Need-returns
 returns c = search law.list-order
 
--- src/meet.rt:192:11
 check-elements-requires : tie.Need-check-elements-requires
 check-elements-requires c κs = search needs
 
--- src/meet.rt:193:43
 enum-told : tie.Need-enum-told
 enum-told c = search needs
 
--- src/meet.rt:194:26
 enum-known-c : tie.Need-enum-known-c
 enum-known-c c = search needs
 
--- src/meet.rt:195:41
 enum-told-2 : tie.Need-enum-told-2
 enum-told-2 c = search needs
 
--- src/meet.rt:195:41
 compare-elements-requires : tie.Need-compare-elements-requires
 compare-elements-requires c κs = search needs
 
--- src/meet.rt:176:1
 returns-2 : tie.Need-returns-2
 returns-2 c = search law.list-alien
 
--- src/meet.rt:176:1
 returns-3 : tie.Need-returns-3
 returns-3 c = search law.list-fault
 
--- src/meet.rt:176:1
 returns-4 : tie.Need-returns-4
 returns-4 c = search law.list-told
 

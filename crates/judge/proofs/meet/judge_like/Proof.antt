@@ -3,39 +3,30 @@ use borrow.Author.Needs.{needs}
 use Rattle.judge.proofs.meet.judge_like.Statement.{statement}
 use Rattle.judge.proofs.meet.judge_like.Tie as tie
 
--- src/meet.rt:134:9
 same-row-requires : tie.Need-same-row-requires
 same-row-requires c κs = search needs
 
--- src/meet.rt:135:9
 returns : tie.Need-returns
 returns c = search law.like-row
 
--- src/meet.rt:138:28
 enum-known-x : tie.Need-enum-known-x
 enum-known-x c = search needs
 
--- src/meet.rt:139:22
 enum-known-x-2 : tie.Need-enum-known-x-2
 enum-known-x-2 c = search needs
 
--- src/meet.rt:140:17
 is-pattern-requires : tie.Need-is-pattern-requires
 is-pattern-requires c κs = search needs
 
--- src/meet.rt:141:17
 returns-2 : tie.Need-returns-2
 returns-2 c = search law.like-malformed
 
--- src/meet.rt:143:27
 like-requires : tie.Need-like-requires
 like-requires c κs = search needs
 
--- src/meet.rt:122:1
 returns-3 : tie.Need-returns-3
 returns-3 c = search law.like-index
 
--- src/meet.rt:122:1
 returns-4 : tie.Need-returns-4
 returns-4 c = search law.like-told
 

@@ -4,27 +4,21 @@ use borrow.Author.Needs.{needs}
 use Rattle.judge.proofs.meet.judge_search.Statement.{statement}
 use Rattle.judge.proofs.meet.judge_search.Tie as tie
 
--- src/meet.rt:145:11
 settle-requires : tie.Need-settle-requires
 settle-requires c κs = search needs
 
--- src/meet.rt:146:24
 enum-known-c : tie.Need-enum-known-c
 enum-known-c c = search needs
 
--- src/meet.rt:147:27
 enum-known-v : tie.Need-enum-known-v
 enum-known-v c = search needs
 
--- src/meet.rt:147:47
 search-requires : tie.Need-search-requires
 search-requires c κs = search needs
 
--- src/meet.rt:127:1
 returns : tie.Need-returns
 returns c = search law.search-fails
 
--- src/meet.rt:127:1
 returns-2 : tie.Need-returns-2
 returns-2 c = search (law.search-ready, of-search)
 

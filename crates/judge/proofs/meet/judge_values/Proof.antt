@@ -3,27 +3,21 @@ use borrow.Author.Needs.{needs}
 use Rattle.judge.proofs.meet.judge_values.Statement.{statement}
 use Rattle.judge.proofs.meet.judge_values.Tie as tie
 
--- src/meet.rt:115:11
 settle-requires : tie.Need-settle-requires
 settle-requires c κs = search needs
 
--- src/meet.rt:116:24
 enum-known-c : tie.Need-enum-known-c
 enum-known-c c = search needs
 
--- src/meet.rt:117:24
 enum-known-s : tie.Need-enum-known-s
 enum-known-s c = search needs
 
--- src/meet.rt:117:33
 tell-values-requires : tie.Need-tell-values-requires
 tell-values-requires c κs = search needs
 
--- src/meet.rt:103:1
 returns : tie.Need-returns
 returns c = search law.values-fail
 
--- src/meet.rt:103:1
 returns-2 : tie.Need-returns-2
 returns-2 c = search law.values-ready
 

@@ -3,43 +3,33 @@ use borrow.Author.Needs.{needs}
 use Rattle.judge.proofs.meet.meet_body.Statement.{statement}
 use Rattle.judge.proofs.meet.meet_body.Tie as tie
 
--- src/meet.rt:254:42
 enum-told : tie.Need-enum-told
 enum-told c = search needs
 
--- src/meet.rt:255:39
 enum-told-2 : tie.Need-enum-told-2
 enum-told-2 c = search needs
 
--- src/meet.rt:256:20
 enum-known-l : tie.Need-enum-known-l
 enum-known-l c = search needs
 
--- src/meet.rt:256:39
 operator-of-requires : tie.Need-operator-of-requires
 operator-of-requires c κs = search needs
 
--- src/meet.rt:256:26
 judge-bodies-requires : tie.Need-judge-bodies-requires
 judge-bodies-requires c κs = search needs
 
--- src/meet.rt:257:43
 enum-told-3 : tie.Need-enum-told-3
 enum-told-3 c = search needs
 
--- src/meet.rt:240:1
 returns : tie.Need-returns
 returns c = search law.many-misshapen
 
--- src/meet.rt:240:1
 returns-2 : tie.Need-returns-2
 returns-2 c = search law.many-one
 
--- src/meet.rt:240:1
 returns-3 : tie.Need-returns-3
 returns-3 c = search law.many-many
 
--- src/meet.rt:240:1
 returns-4 : tie.Need-returns-4
 returns-4 c = search law.many-each
 

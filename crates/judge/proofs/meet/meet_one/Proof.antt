@@ -3,51 +3,39 @@ use borrow.Author.Needs.{needs}
 use Rattle.judge.proofs.meet.meet_one.Statement.{statement}
 use Rattle.judge.proofs.meet.meet_one.Tie as tie
 
--- src/meet.rt:164:9
 operator-of-requires : tie.Need-operator-of-requires
 operator-of-requires c κs = search needs
 
--- src/meet.rt:166:9
 is-suitable-requires : tie.Need-is-suitable-requires
 is-suitable-requires c κs = search needs
 
--- src/meet.rt:168:42
 enum-told : tie.Need-enum-told
 enum-told c = search needs
 
--- src/meet.rt:169:19
 enum-known-l : tie.Need-enum-known-l
 enum-known-l c = search needs
 
--- src/meet.rt:169:25
 judge-values-requires : tie.Need-judge-values-requires
 judge-values-requires c κs = search needs
 
--- src/meet.rt:170:40
 enum-told-2 : tie.Need-enum-told-2
 enum-told-2 c = search needs
 
--- src/meet.rt:171:20
 enum-known-l-2 : tie.Need-enum-known-l-2
 enum-known-l-2 c = search needs
 
--- src/meet.rt:171:31
 judge-search-requires : tie.Need-judge-search-requires
 judge-search-requires c κs = search needs
 
--- src/meet.rt:152:1
 returns : tie.Need-returns
 returns c = search law.one-misshapen
 
--- src/meet.rt:152:1
 returns-2 : tie.Need-returns-2
 returns-2 c = search law.one-one
 
--- src/meet.rt:152:1
 returns-3 : tie.Need-returns-3
 returns-3 c = search law.one-many
 
--- src/meet.rt:152:1
 returns-4 : tie.Need-returns-4
 returns-4 c = search law.one-each
 

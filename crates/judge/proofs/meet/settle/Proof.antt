@@ -3,55 +3,42 @@ use borrow.Author.Needs.{needs}
 use Rattle.judge.proofs.meet.settle.Statement.{statement}
 use Rattle.judge.proofs.meet.settle.Tie as tie
 
--- src/meet.rt:78:9
 returns : tie.Need-returns
 returns c = search law.settle-row
 
--- src/meet.rt:81:44
 enum-told : tie.Need-enum-told
 enum-told c = search needs
 
--- src/meet.rt:82:26
 enum-known-y : tie.Need-enum-known-y
 enum-known-y c = search needs
 
--- src/meet.rt:83:32
 enum-known-x : tie.Need-enum-known-x
 enum-known-x c = search needs
 
--- src/meet.rt:84:32
 enum-told-2 : tie.Need-enum-told-2
 enum-told-2 c = search needs
 
--- src/meet.rt:86:25
 enum-known-y-2 : tie.Need-enum-known-y-2
 enum-known-y-2 c = search needs
 
--- src/meet.rt:87:32
 enum-known-x-2 : tie.Need-enum-known-x-2
 enum-known-x-2 c = search needs
 
--- src/meet.rt:88:26
 enum-known-x-3 : tie.Need-enum-known-x-3
 enum-known-x-3 c = search needs
 
--- src/meet.rt:74:1
 returns-2 : tie.Need-returns-2
 returns-2 c = search law.settle-unlike
 
--- src/meet.rt:74:1
 returns-3 : tie.Need-returns-3
 returns-3 c = search law.settle-index
 
--- src/meet.rt:74:1
 returns-4 : tie.Need-returns-4
 returns-4 c = search law.settle-faulty
 
--- src/meet.rt:74:1
 returns-5 : tie.Need-returns-5
 returns-5 c = search law.settle-large
 
--- src/meet.rt:74:1
 returns-6 : tie.Need-returns-6
 returns-6 c = search law.settle-ready
 

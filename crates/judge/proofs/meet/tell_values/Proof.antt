@@ -3,11 +3,9 @@ use borrow.Author.Needs.{needs}
 use Rattle.judge.proofs.meet.tell_values.Statement.{statement}
 use Rattle.judge.proofs.meet.tell_values.Tie as tie
 
--- src/meet.rt:97:16
 compare-spot-requires : tie.Need-compare-spot-requires
 compare-spot-requires c κs = search needs
 
--- src/meet.rt:93:1
 returns : tie.Need-returns
 returns c = search law.tell-one
 

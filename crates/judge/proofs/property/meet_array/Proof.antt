@@ -3,43 +3,33 @@ use borrow.Author.Needs.{needs}
 use Rattle.judge.proofs.property.meet_array.Statement.{statement}
 use Rattle.judge.proofs.property.meet_array.Tie as tie
 
--- src/property.rt:79:9
 same-row-requires : tie.Need-same-row-requires
 same-row-requires c κs = search needs
 
--- src/property.rt:80:9
 body-at-requires : tie.Need-body-at-requires
 body-at-requires c κs = search needs
 
--- src/property.rt:82:25
 enum-told : tie.Need-enum-told
 enum-told c = search needs
 
--- src/property.rt:82:25
 meet-body-requires : tie.Need-meet-body-requires
 meet-body-requires c κs = search needs
 
--- src/property.rt:83:19
 enum-known-index : tie.Need-enum-known-index
 enum-known-index c = search needs
 
--- src/property.rt:84:52
 read-indexed-requires : tie.Need-read-indexed-requires
 read-indexed-requires c κs = search needs
 
--- src/property.rt:84:17
 value-of-row-requires : tie.Need-value-of-row-requires
 value-of-row-requires c κs = search needs
 
--- src/property.rt:85:13
 meet-one-requires : tie.Need-meet-one-requires
 meet-one-requires c κs = search needs
 
--- src/property.rt:64:1
 returns : tie.Need-returns
 returns c = search law.right-whole
 
--- src/property.rt:64:1
 returns-2 : tie.Need-returns-2
 returns-2 c = search law.right-element
 

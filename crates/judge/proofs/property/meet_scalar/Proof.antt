@@ -3,31 +3,24 @@ use borrow.Author.Needs.{needs}
 use Rattle.judge.proofs.property.meet_scalar.Statement.{statement}
 use Rattle.judge.proofs.property.meet_scalar.Tie as tie
 
--- src/property.rt:53:25
 enum-told : tie.Need-enum-told
 enum-told c = search needs
 
--- src/property.rt:56:34
 same-row-requires : tie.Need-same-row-requires
 same-row-requires c κs = search needs
 
--- src/property.rt:56:17
 value-of-row-requires : tie.Need-value-of-row-requires
 value-of-row-requires c κs = search needs
 
--- src/property.rt:57:13
 meet-one-requires : tie.Need-meet-one-requires
 meet-one-requires c κs = search needs
 
--- src/property.rt:59:39
 enum-told-2 : tie.Need-enum-told-2
 enum-told-2 c = search needs
 
--- src/property.rt:35:1
 returns : tie.Need-returns
 returns c = search law.right-one
 
--- src/property.rt:35:1
 returns-2 : tie.Need-returns-2
 returns-2 c = search law.right-indexed
 

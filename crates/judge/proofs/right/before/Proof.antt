@@ -3,47 +3,36 @@ use borrow.Author.Needs.{needs}
 use Rattle.judge.proofs.right.before.Statement.{statement}
 use Rattle.judge.proofs.right.before.Tie as tie
 
--- src/right.rt:94:29
 enum-told : tie.Need-enum-told
 enum-told c = search needs
 
--- src/right.rt:95:26
 enum-known-a : tie.Need-enum-known-a
 enum-known-a c = search needs
 
--- src/right.rt:96:33
 enum-told-2 : tie.Need-enum-told-2
 enum-told-2 c = search needs
 
--- src/right.rt:97:39
 enum-told-3 : tie.Need-enum-told-3
 enum-told-3 c = search needs
 
--- src/right.rt:98:31
 enum-told-4 : tie.Need-enum-told-4
 enum-told-4 c = search needs
 
--- src/right.rt:100:27
 enum-told-5 : tie.Need-enum-told-5
 enum-told-5 c = search needs
 
--- src/right.rt:90:1
 returns : tie.Need-returns
 returns c = search needs
 
--- src/right.rt:90:1
 returns-2 : tie.Need-returns-2
 returns-2 c = search needs
 
--- src/right.rt:90:1
 returns-3 : tie.Need-returns-3
 returns-3 c = search law.before-fault
 
--- src/right.rt:90:1
 returns-4 : tie.Need-returns-4
 returns-4 c = search law.before-good
 
--- src/right.rt:90:1
 returns-5 : tie.Need-returns-5
 returns-5 c = search needs
 

@@ -13,43 +13,33 @@ Inv-loop family q start count t₀ left₀ seen₀ t left seen = listRead (eleme
 abbrev μ-loop : tie.MeasureT-loop
 μ-loop family q start count t₀ left₀ seen₀ t left seen = left
 
--- src/right.rt:108:9
 first-element-requires : tie.Need-first-element-requires Inv-loop μ-loop
 first-element-requires c κs = search needs
 
--- src/right.rt:111:5
 loop-holds : tie.Need-loop-holds Inv-loop μ-loop
 loop-holds c = search law.elements-begin
 
--- src/right.rt:112:37
 literal-at-requires : tie.Need-literal-at-requires Inv-loop μ-loop
 literal-at-requires c κs = search needs
 
--- src/right.rt:112:29
 list-of-requires : tie.Need-list-of-requires Inv-loop μ-loop
 list-of-requires c κs = search needs
 
--- src/right.rt:112:9
 before-requires : tie.Need-before-requires Inv-loop μ-loop
 before-requires c κs = search needs
 
--- src/right.rt:113:9
 next-element-requires : tie.Need-next-element-requires Inv-loop μ-loop
 next-element-requires c κs = search needs
 
--- src/right.rt:114:9
 sub-left : tie.Need-sub-left Inv-loop μ-loop
 sub-left c = search needs
 
--- src/right.rt:111:5
 loop-less : tie.Need-loop-less Inv-loop μ-loop
 loop-less c = search needs
 
--- src/right.rt:111:5
 loop-again : tie.Need-loop-again Inv-loop μ-loop
 loop-again c = search law.elements-next
 
--- src/right.rt:105:1
 returns : tie.Need-returns Inv-loop μ-loop
 returns c = search law.elements-end
 

@@ -3,27 +3,21 @@ use borrow.Author.Needs.{needs}
 use Rattle.judge.proofs.right.list_of.Statement.{statement}
 use Rattle.judge.proofs.right.list_of.Tie as tie
 
--- src/right.rt:84:29
 enum-told : tie.Need-enum-told
 enum-told c = search needs
 
--- src/right.rt:85:26
 enum-known-y : tie.Need-enum-known-y
 enum-known-y c = search needs
 
--- src/right.rt:86:31
 enum-told-2 : tie.Need-enum-told-2
 enum-told-2 c = search needs
 
--- src/right.rt:80:1
 returns : tie.Need-returns
 returns c = search law.list-unlike
 
--- src/right.rt:80:1
 returns-2 : tie.Need-returns-2
 returns-2 c = search law.list-faulty
 
--- src/right.rt:80:1
 returns-3 : tie.Need-returns-3
 returns-3 c = search law.list-good
 

@@ -3,43 +3,33 @@ use borrow.Author.Needs.{needs}
 use Rattle.judge.proofs.right.literal_at.Statement.{statement}
 use Rattle.judge.proofs.right.literal_at.Tie as tie
 
--- src/right.rt:50:11
 read-literal-requires : tie.Need-read-literal-requires
 read-literal-requires c κs = search needs
 
--- src/right.rt:51:32
 enum-told : tie.Need-enum-told
 enum-told c = search needs
 
--- src/right.rt:52:53
 enum-told-2 : tie.Need-enum-told-2
 enum-told-2 c = search needs
 
--- src/right.rt:53:52
 enum-told-3 : tie.Need-enum-told-3
 enum-told-3 c = search needs
 
--- src/right.rt:54:28
 enum-known-x : tie.Need-enum-known-x
 enum-known-x c = search needs
 
--- src/right.rt:54:50
 in-query-requires : tie.Need-in-query-requires
 in-query-requires c κs = search needs
 
--- src/right.rt:47:1
 returns : tie.Need-returns
 returns c = search law.literal-unlike
 
--- src/right.rt:47:1
 returns-2 : tie.Need-returns-2
 returns-2 c = search law.literal-range
 
--- src/right.rt:47:1
 returns-3 : tie.Need-returns-3
 returns-3 c = search law.literal-malformed
 
--- src/right.rt:47:1
 returns-4 : tie.Need-returns-4
 returns-4 c = search law.literal-value
 

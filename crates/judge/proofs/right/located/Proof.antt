@@ -3,15 +3,12 @@ use borrow.Author.Needs.{needs}
 use Rattle.judge.proofs.right.located.Statement.{statement}
 use Rattle.judge.proofs.right.located.Tie as tie
 
--- src/right.rt:63:24
 bytes-of-requires : tie.Need-bytes-of-requires
 bytes-of-requires c κs = search needs
 
--- src/right.rt:63:9
 item-at-requires : tie.Need-item-at-requires
 item-at-requires c κs = search needs
 
--- src/right.rt:59:1
 returns : tie.Need-returns
 returns c = search law.record-located
 

@@ -3,27 +3,21 @@ use borrow.Author.Needs.{needs}
 use Rattle.judge.proofs.right.value_of_row.Statement.{statement}
 use Rattle.judge.proofs.right.value_of_row.Tie as tie
 
--- src/right.rt:72:9
 returns : tie.Need-returns
 returns c = search law.row-unlike
 
--- src/right.rt:75:28
 enum-known-x : tie.Need-enum-known-x
 enum-known-x c = search needs
 
--- src/right.rt:76:22
 enum-known-x-2 : tie.Need-enum-known-x-2
 enum-known-x-2 c = search needs
 
--- src/right.rt:76:44
 located-requires : tie.Need-located-requires
 located-requires c κs = search needs
 
--- src/right.rt:68:1
 returns-2 : tie.Need-returns-2
 returns-2 c = search law.row-large
 
--- src/right.rt:68:1
 returns-3 : tie.Need-returns-3
 returns-3 c = search law.row-value
 

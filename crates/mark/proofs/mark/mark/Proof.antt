@@ -3,31 +3,24 @@ use borrow.Author.Needs.{needs}
 use Rattle.mark.proofs.mark.mark.Statement.{statement}
 use Rattle.mark.proofs.mark.mark.Tie as tie
 
--- src/mark.rt:87:11
 check-requires : tie.Need-check-requires
 check-requires c κs = search needs
 
--- src/mark.rt:88:26
 enum-known-r : tie.Need-enum-known-r
 enum-known-r c = search needs
 
--- src/mark.rt:95:63
 enum-told : tie.Need-enum-told
 enum-told c = search needs
 
--- src/mark.rt:95:30
 mark-accepted-requires : tie.Need-mark-accepted-requires
 mark-accepted-requires c κs = search law.check-accepts
 
--- src/mark.rt:84:1
 returns : tie.Need-returns
 returns c = (search law.check-refuses, search law.check-leaves, search needs)
 
--- src/mark.rt:84:1
 same-length : tie.Need-same-length
 same-length c = search needs
 
--- src/mark.rt:84:1
 returns-2 : tie.Need-returns-2
 returns-2 c = search needs
 

@@ -3,43 +3,33 @@ use borrow.Author.Needs.{needs}
 use Rattle.mark.proofs.mark.mark_accepted.Statement.{statement}
 use Rattle.mark.proofs.mark.mark_accepted.Tie as tie
 
--- src/mark.rt:72:11
 read-run-requires : tie.Need-read-run-requires
 read-run-requires c κs = search needs
 
--- src/mark.rt:73:28
 enum-known-place : tie.Need-enum-known-place
 enum-known-place c = search needs
 
--- src/mark.rt:73:38
 refuse-requires : tie.Need-refuse-requires
 refuse-requires c κs = search needs
 
--- src/mark.rt:74:29
 enum-known-count : tie.Need-enum-known-count
 enum-known-count c = search needs
 
--- src/mark.rt:76:17
 refuse-requires-2 : tie.Need-refuse-requires-2
 refuse-requires-2 c κs = search needs
 
--- src/mark.rt:76:17
 returns : tie.Need-returns
 returns c = (search law.few-refuses, search law.few-leaves, search needs)
 
--- src/mark.rt:78:28
 mark-instances-requires : tie.Need-mark-instances-requires
 mark-instances-requires c κs = (search needs, search law.enough)
 
--- src/mark.rt:68:1
 returns-2 : tie.Need-returns-2
 returns-2 c = (search law.run-refuses, search law.run-leaves, search needs)
 
--- src/mark.rt:68:1
 same-length : tie.Need-same-length
 same-length c = search needs
 
--- src/mark.rt:68:1
 returns-3 : tie.Need-returns-3
 returns-3 c = (search law.good-totals, search law.good-marks, search needs)
 

@@ -16,71 +16,54 @@ Inv-loop query table run marks₀ at₀ i₀ totals₀ marks at i totals = Marki
 abbrev μ-loop : tie.MeasureT-loop
 μ-loop query table run marks₀ at₀ i₀ totals₀ marks at i totals = length run - at
 
--- src/mark.rt:38:5
 loop-holds : tie.Need-loop-holds Inv-loop μ-loop
 loop-holds c = search law.marking-begins
 
--- src/mark.rt:39:15
 record-at-requires : tie.Need-record-at-requires Inv-loop μ-loop
 record-at-requires c κs = search needs
 
--- src/mark.rt:42:17
 enum-known-start : tie.Need-enum-known-start Inv-loop μ-loop
 enum-known-start c = search needs
 
--- src/mark.rt:46:62
 piece-requires : tie.Need-piece-requires Inv-loop μ-loop
 piece-requires c κs = search needs
 
--- src/mark.rt:46:21
 evaluate-accepted-requires : tie.Need-evaluate-accepted-requires Inv-loop μ-loop
 evaluate-accepted-requires c κs = search needs
 
--- src/mark.rt:47:28
 mark-of-requires : tie.Need-mark-of-requires Inv-loop μ-loop
 mark-of-requires c κs = search needs
 
--- src/mark.rt:47:17
 slice-write-marks : tie.Need-slice-write-marks Inv-loop μ-loop
 slice-write-marks c = search law.marking-room
 
--- src/mark.rt:48:17
 count-answer-requires : tie.Need-count-answer-requires Inv-loop μ-loop
 count-answer-requires c κs = let m = law.marking-few _ _ _ _ _ _ _ _ (c .before .before .before .before .before .before .before .loop .inv) (c .before .before .before .before .before .before .record-at .ensures) (c .before .before .before .before .start .given .1) in omega arith
 
--- src/mark.rt:49:17
 add-i : tie.Need-add-i Inv-loop μ-loop
 add-i c = let m = law.marking-room _ _ _ _ _ _ _ _ (c .before .before .before .before .before .before .before .before .loop .inv) (c .before .before .before .before .before .before .before .record-at .ensures) (c .before .before .before .before .before .start .given .1) in omega arith
 
--- src/mark.rt:38:5
 loop-less : tie.Need-loop-less Inv-loop μ-loop
 loop-less c = search reach.step-less
 
--- src/mark.rt:38:5
 loop-again : tie.Need-loop-again Inv-loop μ-loop
 loop-again c = search law.marking-next
 
--- src/mark.rt:52:33
 enum-told : tie.Need-enum-told Inv-loop μ-loop
 enum-told c = search needs
 
--- src/mark.rt:52:33
 same-length : tie.Need-same-length Inv-loop μ-loop
 same-length c = search law.marking-same
 
--- src/mark.rt:52:33
 returns : tie.Need-returns Inv-loop μ-loop
 returns c = law.marking-broken _ _ _ _ _ _ _ _ (c .before .before .before .loop .inv) (c .before .before .record-at .ensures) (c .enum-told .given .1)
 
--- src/mark.rt:53:30
 enum-told-2 : tie.Need-enum-told-2 Inv-loop μ-loop
 enum-told-2 c = search needs
 
--- src/mark.rt:53:30
 same-length-2 : tie.Need-same-length-2 Inv-loop μ-loop
 same-length-2 c = search law.marking-same
 
--- src/mark.rt:53:30
 returns-2 : tie.Need-returns-2 Inv-loop μ-loop
 returns-2 c = law.marking-end _ _ _ _ _ _ _ _ (c .before .before .before .loop .inv) (c .before .before .record-at .ensures) (c .enum-told2 .given .1)
 

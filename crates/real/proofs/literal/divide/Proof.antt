@@ -12,28 +12,22 @@ use borrow.Author.Needs.{needs}
 use Rattle.real.proofs.literal.divide.Statement.{statement}
 use Rattle.real.proofs.literal.divide.Tie as tie
 
--- src/literal.rt:42:30
 cast-keep : tie.Need-cast-keep
 cast-keep c = search needs
 
--- src/literal.rt:42:28
 sub-keep : tie.Need-sub-keep
 sub-keep c = rw (toZ-small w32 (c .args .k) (omega arith)) (difference-fits w32 0 (c .args .k) (omega arith) (omega arith))
 
--- src/literal.rt:42:41
 int-to-float-keep : tie.Need-int-to-float-keep
 unfolding inFloat
 int-to-float-keep c = le→leb (c .before .args .digits) (2 ^ 53) (omega arith)
 
--- src/literal.rt:42:57
 power-of-ten-requires : tie.Need-power-of-ten-requires
 power-of-ten-requires c κs = search needs
 
--- src/literal.rt:42:5
 keep-requires : tie.Need-keep-requires
 keep-requires c κs = search needs
 
--- src/literal.rt:38:1
 returns : tie.Need-returns
 returns c = c .keep .ensures ∙ rw (toZ-small w32 (c .before .before .before .args .k) (omega arith), toZ-ofZ (difference-fits w32 0 (c .before .before .before .args .k) (omega arith) (omega arith)), +ℤ-idl (negℤ (pos (c .before .before .before .args .k))), c .before .power-of-ten .ensures, ← divided (c .before .before .before .args .digits) (c .before .before .before .args .k) (omega arith))
 

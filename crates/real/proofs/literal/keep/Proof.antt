@@ -3,11 +3,9 @@ use borrow.Author.Needs.{needs}
 use Rattle.real.proofs.literal.keep.Statement.{statement}
 use Rattle.real.proofs.literal.keep.Tie as tie
 
--- src/literal.rt:22:9
 add-sign-requires : tie.Need-add-sign-requires
 add-sign-requires c κs = search needs
 
--- src/literal.rt:19:1
 returns : tie.Need-returns
 returns c = rw (toZ-ofZ (c .before .fits .exponent), c .add-sign .ensures)
 

@@ -10,24 +10,19 @@ use borrow.Author.Needs.{needs}
 use Rattle.real.proofs.literal.multiply.Statement.{statement}
 use Rattle.real.proofs.literal.multiply.Tie as tie
 
--- src/literal.rt:35:28
 cast-keep : tie.Need-cast-keep
 cast-keep c = search needs
 
--- src/literal.rt:35:38
 int-to-float-keep : tie.Need-int-to-float-keep
 unfolding inFloat
 int-to-float-keep c = le→leb (c .before .args .digits) (2 ^ 53) (omega arith)
 
--- src/literal.rt:35:54
 power-of-ten-requires : tie.Need-power-of-ten-requires
 power-of-ten-requires c κs = search needs
 
--- src/literal.rt:35:5
 keep-requires : tie.Need-keep-requires
 keep-requires c κs = search needs
 
--- src/literal.rt:31:1
 returns : tie.Need-returns
 unfolding magnitude
 returns c = c .keep .ensures ∙ rw (toZ-small w32 (c .before .before .before .args .k) (omega arith), c .before .power-of-ten .ensures)

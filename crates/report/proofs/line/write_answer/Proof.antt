@@ -3,67 +3,51 @@ use borrow.Author.Needs.{needs}
 use Rattle.report.proofs.line.write_answer.Statement.{statement}
 use Rattle.report.proofs.line.write_answer.Tie as tie
 
--- src/line.rt:33:26
 enum-known-answer : tie.Need-enum-known-answer
 enum-known-answer c = search needs
 
--- src/line.rt:33:60
 slice-aggregate-write-line : tie.Need-slice-aggregate-write-line
 slice-aggregate-write-line c = search needs
 
--- src/line.rt:33:32
 write-line-requires : tie.Need-write-line-requires
 write-line-requires c κs = search needs
 
--- src/line.rt:34:26
 enum-known-answer-2 : tie.Need-enum-known-answer-2
 enum-known-answer-2 c = search needs
 
--- src/line.rt:34:60
 slice-aggregate-write-line-2 : tie.Need-slice-aggregate-write-line-2
 slice-aggregate-write-line-2 c = search needs
 
--- src/line.rt:34:32
 write-line-requires-2 : tie.Need-write-line-requires-2
 write-line-requires-2 c κs = search needs
 
--- src/line.rt:35:25
 enum-known-answer-3 : tie.Need-enum-known-answer-3
 enum-known-answer-3 c = search needs
 
--- src/line.rt:37:41
 slice-aggregate-write-line-3 : tie.Need-slice-aggregate-write-line-3
 slice-aggregate-write-line-3 c = search needs
 
--- src/line.rt:37:52
 number-of-requires : tie.Need-number-of-requires
 number-of-requires c κs = search needs
 
--- src/line.rt:37:13
 write-line-requires-3 : tie.Need-write-line-requires-3
 write-line-requires-3 c κs = search needs
 
--- src/line.rt:29:1
 same-length : tie.Need-same-length
 same-length c = search needs
 
--- src/line.rt:29:1
 returns : tie.Need-returns
 returns c = search law.included-written
 
--- src/line.rt:29:1
 same-length-2 : tie.Need-same-length-2
 same-length-2 c = search needs
 
--- src/line.rt:29:1
 returns-2 : tie.Need-returns-2
 returns-2 c = search law.excluded-written
 
--- src/line.rt:29:1
 same-length-3 : tie.Need-same-length-3
 same-length-3 c = search needs
 
--- src/line.rt:29:1
 returns-3 : tie.Need-returns-3
 returns-3 c = search law.failed-written
 

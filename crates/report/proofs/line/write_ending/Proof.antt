@@ -3,23 +3,18 @@ use borrow.Author.Needs.{needs}
 use Rattle.report.proofs.line.write_ending.Statement.{statement}
 use Rattle.report.proofs.line.write_ending.Tie as tie
 
--- src/line.rt:14:9
 write-byte-requires : tie.Need-write-byte-requires
 write-byte-requires c κs = search needs
 
--- src/line.rt:15:9
 write-decimal-requires : tie.Need-write-decimal-requires
 write-decimal-requires c κs = search needs
 
--- src/line.rt:16:5
 write-byte-requires-2 : tie.Need-write-byte-requires-2
 write-byte-requires-2 c κs = search needs
 
--- src/line.rt:11:1
 same-length : tie.Need-same-length
 same-length c = search needs
 
--- src/line.rt:11:1
 returns : tie.Need-returns
 returns c = search law.ending-written
 

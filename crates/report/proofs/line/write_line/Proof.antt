@@ -3,27 +3,21 @@ use borrow.Author.Needs.{needs}
 use Rattle.report.proofs.line.write_line.Statement.{statement}
 use Rattle.report.proofs.line.write_line.Tie as tie
 
--- src/line.rt:22:9
 write-decimal-requires : tie.Need-write-decimal-requires
 write-decimal-requires c κs = search needs
 
--- src/line.rt:23:9
 write-byte-requires : tie.Need-write-byte-requires
 write-byte-requires c κs = search needs
 
--- src/line.rt:24:9
 write-text-requires : tie.Need-write-text-requires
 write-text-requires c κs = search needs
 
--- src/line.rt:25:5
 write-ending-requires : tie.Need-write-ending-requires
 write-ending-requires c κs = search needs
 
--- src/line.rt:19:1
 same-length : tie.Need-same-length
 same-length c = search needs
 
--- src/line.rt:19:1
 returns : tie.Need-returns
 returns c = search law.line-written
 

@@ -3,27 +3,21 @@ use borrow.Author.Needs.{needs}
 use Rattle.report.proofs.line.write_refused.Statement.{statement}
 use Rattle.report.proofs.line.write_refused.Tie as tie
 
--- src/line.rt:46:37
 slice-aggregate-write-text : tie.Need-slice-aggregate-write-text
 slice-aggregate-write-text c = search needs
 
--- src/line.rt:46:9
 write-text-requires : tie.Need-write-text-requires
 write-text-requires c κs = search needs
 
--- src/line.rt:47:9
 write-decimal-requires : tie.Need-write-decimal-requires
 write-decimal-requires c κs = search needs
 
--- src/line.rt:48:5
 write-ending-requires : tie.Need-write-ending-requires
 write-ending-requires c κs = search needs
 
--- src/line.rt:43:1
 same-length : tie.Need-same-length
 same-length c = search needs
 
--- src/line.rt:43:1
 returns : tie.Need-returns
 returns c = search law.refused-written
 

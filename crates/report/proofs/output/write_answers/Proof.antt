@@ -14,63 +14,48 @@ Inv-loop out₀ query table run place₀ at₀ number₀ out place at number = W
 abbrev μ-loop : tie.MeasureT-loop
 μ-loop out₀ query table run place₀ at₀ number₀ out place at number = length run - at
 
--- src/output.rt:28:5
 loop-holds : tie.Need-loop-holds Inv-loop μ-loop
 loop-holds c = search law.writing-begins
 
--- src/output.rt:29:15
 record-at-requires : tie.Need-record-at-requires Inv-loop μ-loop
 record-at-requires c κs = search needs
 
--- src/output.rt:32:17
 enum-known-start : tie.Need-enum-known-start Inv-loop μ-loop
 enum-known-start c = search needs
 
--- src/output.rt:36:62
 piece-requires : tie.Need-piece-requires Inv-loop μ-loop
 piece-requires c κs = search needs
 
--- src/output.rt:36:21
 evaluate-accepted-requires : tie.Need-evaluate-accepted-requires Inv-loop μ-loop
 evaluate-accepted-requires c κs = search needs
 
--- src/output.rt:37:17
 write-answer-requires : tie.Need-write-answer-requires Inv-loop μ-loop
 write-answer-requires c κs = search needs
 
--- src/output.rt:38:17
 add-number : tie.Need-add-number Inv-loop μ-loop
 add-number c = let m = law.writing-room _ _ _ _ _ _ _ _ (c .before .before .before .before .before .before .before .before .before .before .loop .inv) (c .before .before .before .before .before .before .before .before .before .record-at .ensures) (c .before .before .before .before .before .before .before .start .given .1) in omega arith
 
--- src/output.rt:28:5
 loop-less : tie.Need-loop-less Inv-loop μ-loop
 loop-less c = search reach.step-less
 
--- src/output.rt:28:5
 loop-again : tie.Need-loop-again Inv-loop μ-loop
 loop-again c = search law.writing-next
 
--- src/output.rt:41:33
 enum-told : tie.Need-enum-told Inv-loop μ-loop
 enum-told c = search needs
 
--- src/output.rt:41:33
 same-length : tie.Need-same-length Inv-loop μ-loop
 same-length c = search law.writing-same
 
--- src/output.rt:41:33
 returns : tie.Need-returns Inv-loop μ-loop
 returns c = search law.writing-broken
 
--- src/output.rt:42:30
 enum-told-2 : tie.Need-enum-told-2 Inv-loop μ-loop
 enum-told-2 c = search needs
 
--- src/output.rt:42:30
 same-length-2 : tie.Need-same-length-2 Inv-loop μ-loop
 same-length-2 c = search law.writing-same
 
--- src/output.rt:42:30
 returns-2 : tie.Need-returns-2 Inv-loop μ-loop
 returns-2 c = search law.writing-end
 

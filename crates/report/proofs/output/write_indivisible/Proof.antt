@@ -3,19 +3,15 @@ use borrow.Author.Needs.{needs}
 use Rattle.report.proofs.output.write_indivisible.Statement.{statement}
 use Rattle.report.proofs.output.write_indivisible.Tie as tie
 
--- src/output.rt:53:27
 number-of-requires : tie.Need-number-of-requires
 number-of-requires c κs = search needs
 
--- src/output.rt:53:5
 write-refused-requires : tie.Need-write-refused-requires
 write-refused-requires c κs = search needs
 
--- src/output.rt:50:1
 same-length : tie.Need-same-length
 same-length c = search needs
 
--- src/output.rt:50:1
 returns : tie.Need-returns
 returns c = search law.indivisible-written
 

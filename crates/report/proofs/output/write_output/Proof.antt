@@ -5,43 +5,33 @@ use borrow.Author.Needs.{needs}
 use Rattle.report.proofs.output.write_output.Statement.{statement}
 use Rattle.report.proofs.output.write_output.Tie as tie
 
--- src/output.rt:65:11
 check-requires : tie.Need-check-requires
 check-requires c κs = search needs
 
--- src/output.rt:66:26
 enum-known-x : tie.Need-enum-known-x
 enum-known-x c = search needs
 
--- src/output.rt:68:35
 number-of-requires : tie.Need-number-of-requires
 number-of-requires c κs = search needs
 
--- src/output.rt:68:13
 write-refused-requires : tie.Need-write-refused-requires
 write-refused-requires c κs = search needs
 
--- src/output.rt:70:40
 enum-told : tie.Need-enum-told
 enum-told c = search needs
 
--- src/output.rt:70:30
 write-run-requires : tie.Need-write-run-requires
 write-run-requires c κs = search filter.accepts
 
--- src/output.rt:62:1
 same-length : tie.Need-same-length
 same-length c = search needs
 
--- src/output.rt:62:1
 returns : tie.Need-returns
 returns c = (search law.refused-written, fits.refused-fits _ _ _ (c .before .before .before .before .before .before .before .before .check .ensures) (c .before .before .before .before .before .before .x .given .1) (search needs))
 
--- src/output.rt:62:1
 same-length-2 : tie.Need-same-length-2
 same-length-2 c = search needs
 
--- src/output.rt:62:1
 returns-2 : tie.Need-returns-2
 returns-2 c = (search law.accepted-written, search fits.accepted-fits)
 

@@ -3,51 +3,39 @@ use borrow.Author.Needs.{needs}
 use Rattle.report.proofs.output.write_run.Statement.{statement}
 use Rattle.report.proofs.output.write_run.Tie as tie
 
--- src/output.rt:53:9
 write-indivisible-requires : tie.Need-write-indivisible-requires
 write-indivisible-requires c κs = search needs
 
--- src/output.rt:53:9
 same-length : tie.Need-same-length
 same-length c = search needs
 
--- src/output.rt:53:9
 returns : tie.Need-returns
 returns c = search law.long-written
 
--- src/output.rt:55:11
 read-run-requires : tie.Need-read-run-requires
 read-run-requires c κs = search needs
 
--- src/output.rt:56:28
 enum-known-place : tie.Need-enum-known-place
 enum-known-place c = search needs
 
--- src/output.rt:56:38
 write-indivisible-requires-2 : tie.Need-write-indivisible-requires-2
 write-indivisible-requires-2 c κs = search needs
 
--- src/output.rt:57:49
 enum-told : tie.Need-enum-told
 enum-told c = search needs
 
--- src/output.rt:57:35
 write-answers-requires : tie.Need-write-answers-requires
 write-answers-requires c κs = search needs
 
--- src/output.rt:48:1
 same-length-2 : tie.Need-same-length-2
 same-length-2 c = search needs
 
--- src/output.rt:48:1
 returns-2 : tie.Need-returns-2
 returns-2 c = search law.broken-written
 
--- src/output.rt:48:1
 same-length-3 : tie.Need-same-length-3
 same-length-3 c = search needs
 
--- src/output.rt:48:1
 returns-3 : tie.Need-returns-3
 returns-3 c = search law.answers-written
 

@@ -16,47 +16,36 @@ Inv-loop run at₀ count₀ at count = (runReading run ≡ readingFrom count (re
 abbrev μ-loop : tie.MeasureT-loop
 μ-loop run at₀ count₀ at count = length run - at
 
--- src/reading.rt:18:5
 loop-holds : tie.Need-loop-holds Inv-loop μ-loop
 loop-holds c = (search law.run-begins, search needs)
 
--- src/reading.rt:19:15
 record-at-requires : tie.Need-record-at-requires Inv-loop μ-loop
 record-at-requires c κs = search needs
 
--- src/reading.rt:21:17
 enum-known-kind : tie.Need-enum-known-kind Inv-loop μ-loop
 enum-known-kind c = search needs
 
--- src/reading.rt:27:21
 returns : tie.Need-returns Inv-loop μ-loop
 returns c = search law.run-other
 
--- src/reading.rt:29:17
 add-count : tie.Need-add-count Inv-loop μ-loop
 add-count c = let m = reach.step-room _ _ (c .before .before .before .before .record-at .ensures) (c .before .before .kind .given .1) _ (c .before .before .before .before .before .loop .inv .1) in omega arith
 
--- src/reading.rt:18:5
 loop-less : tie.Need-loop-less Inv-loop μ-loop
 loop-less c = search reach.step-less
 
--- src/reading.rt:18:5
 loop-again : tie.Need-loop-again Inv-loop μ-loop
 loop-again c = (search law.run-next, search reach.step-counts)
 
--- src/reading.rt:32:33
 enum-told : tie.Need-enum-told Inv-loop μ-loop
 enum-told c = search needs
 
--- src/reading.rt:32:33
 returns-2 : tie.Need-returns-2 Inv-loop μ-loop
 returns-2 c = search law.run-broken
 
--- src/reading.rt:33:30
 enum-told-2 : tie.Need-enum-told-2 Inv-loop μ-loop
 enum-told-2 c = search needs
 
--- src/reading.rt:33:30
 returns-3 : tie.Need-returns-3 Inv-loop μ-loop
 returns-3 c = search law.run-end
 

@@ -3,39 +3,30 @@ use borrow.Author.Needs.{needs}
 use Rattle.run.proofs.totals.count_answer.Statement.{statement}
 use Rattle.run.proofs.totals.count_answer.Tie as tie
 
--- src/totals.rt:31:23
 enum-told : tie.Need-enum-told
 enum-told c = search needs
 
--- src/totals.rt:31:23
 add-t4 : tie.Need-add-t4
 add-t4 c = search needs
 
--- src/totals.rt:37:23
 enum-told-2 : tie.Need-enum-told-2
 enum-told-2 c = search needs
 
--- src/totals.rt:37:23
 add-t5 : tie.Need-add-t5
 add-t5 c = search needs
 
--- src/totals.rt:43:21
 enum-told-3 : tie.Need-enum-told-3
 enum-told-3 c = search needs
 
--- src/totals.rt:43:21
 add-t6 : tie.Need-add-t6
 add-t6 c = search needs
 
--- src/totals.rt:25:1
 returns : tie.Need-returns
 returns c = search law.counts-included
 
--- src/totals.rt:25:1
 returns-2 : tie.Need-returns-2
 returns-2 c = search law.counts-excluded
 
--- src/totals.rt:25:1
 returns-3 : tie.Need-returns-3
 returns-3 c = search law.counts-failed
 

@@ -13,35 +13,27 @@ Inv-loop out₀ at text place₀ i₀ out place i = Written out₀ at (take i te
 abbrev μ-loop : tie.MeasureT-loop
 μ-loop out₀ at text place₀ i₀ out place i = length text - i
 
--- src/buffer.rt:20:5
 loop-holds : tie.Need-loop-holds Inv-loop μ-loop
 loop-holds c = law.written-none
 
--- src/buffer.rt:21:40
 shared-slice-read-write-byte : tie.Need-shared-slice-read-write-byte Inv-loop μ-loop
 shared-slice-read-write-byte c = search needs
 
--- src/buffer.rt:21:9
 write-byte-requires : tie.Need-write-byte-requires Inv-loop μ-loop
 write-byte-requires c κs = search needs
 
--- src/buffer.rt:22:9
 add-i : tie.Need-add-i Inv-loop μ-loop
 add-i c = search needs
 
--- src/buffer.rt:20:5
 loop-less : tie.Need-loop-less Inv-loop μ-loop
 loop-less c = search needs
 
--- src/buffer.rt:20:5
 loop-again : tie.Need-loop-again Inv-loop μ-loop
 loop-again c = search law.written-more
 
--- src/buffer.rt:15:1
 same-length : tie.Need-same-length Inv-loop μ-loop
 same-length c = law.written-length (c .before .loop .inv)
 
--- src/buffer.rt:15:1
 returns : tie.Need-returns Inv-loop μ-loop
 returns c = search law.written-all
 

@@ -28,7 +28,6 @@ write-decimal-below t =
     (falls 1 write-decimal-kinds.ps _<_ μ-write-decimal t)
     write-decimal.Pre
 
--- src/decimal.rt:20:36
 write-decimal-digit-byte-requires : (t : ℕ) → write-decimal-lts.Need-digit-byte-requires (
   digit-byte-reads.Asked,
   digit-byte-reads.Learnt,
@@ -39,7 +38,6 @@ write-decimal-digit-byte-requires : (t : ℕ) → write-decimal-lts.Need-digit-b
 ) (write-decimal-at t) write-decimal.Post
 write-decimal-digit-byte-requires t c κs = search needs
 
--- src/decimal.rt:20:9
 write-decimal-write-byte-requires : (t : ℕ) → write-decimal-lts.Need-write-byte-requires (
   digit-byte-reads.Asked,
   digit-byte-reads.Learnt,
@@ -50,7 +48,6 @@ write-decimal-write-byte-requires : (t : ℕ) → write-decimal-lts.Need-write-b
 ) (write-decimal-at t) write-decimal.Post
 write-decimal-write-byte-requires t c κs = search needs
 
--- src/decimal.rt:20:9
 write-decimal-same-length : (t : ℕ) → write-decimal-lts.Need-same-length (
   digit-byte-reads.Asked,
   digit-byte-reads.Learnt,
@@ -61,7 +58,6 @@ write-decimal-same-length : (t : ℕ) → write-decimal-lts.Need-same-length (
 ) (write-decimal-at t) write-decimal.Post
 write-decimal-same-length t c = search written.written-length
 
--- src/decimal.rt:20:9
 write-decimal-returns : (t : ℕ) → write-decimal-lts.Need-returns (
   digit-byte-reads.Asked,
   digit-byte-reads.Learnt,
@@ -72,7 +68,6 @@ write-decimal-returns : (t : ℕ) → write-decimal-lts.Need-returns (
 ) (write-decimal-at t) write-decimal.Post
 write-decimal-returns t c = search law.decimal-one
 
--- src/decimal.rt:22:9
 write-decimal-write-decimal-requires : (t : ℕ) → write-decimal-lts.Need-write-decimal-requires (
   digit-byte-reads.Asked,
   digit-byte-reads.Learnt,
@@ -83,7 +78,6 @@ write-decimal-write-decimal-requires : (t : ℕ) → write-decimal-lts.Need-writ
 ) (write-decimal-at t) write-decimal.Post
 write-decimal-write-decimal-requires t c κs = omega arith
 
--- src/decimal.rt:23:28
 write-decimal-digit-byte-requires-2 : (t : ℕ) → write-decimal-lts.Need-digit-byte-requires-2 (
   digit-byte-reads.Asked,
   digit-byte-reads.Learnt,
@@ -94,7 +88,6 @@ write-decimal-digit-byte-requires-2 : (t : ℕ) → write-decimal-lts.Need-digit
 ) (write-decimal-at t) write-decimal.Post
 write-decimal-digit-byte-requires-2 t c κs = search needs
 
--- src/decimal.rt:23:5
 write-decimal-write-byte-requires-2 : (t : ℕ) → write-decimal-lts.Need-write-byte-requires-2 (
   digit-byte-reads.Asked,
   digit-byte-reads.Learnt,
@@ -105,7 +98,6 @@ write-decimal-write-byte-requires-2 : (t : ℕ) → write-decimal-lts.Need-write
 ) (write-decimal-at t) write-decimal.Post
 write-decimal-write-byte-requires-2 t c κs = search needs
 
--- src/decimal.rt:16:1
 write-decimal-same-length-2 : (t : ℕ) → write-decimal-lts.Need-same-length-2 (
   digit-byte-reads.Asked,
   digit-byte-reads.Learnt,
@@ -116,7 +108,6 @@ write-decimal-same-length-2 : (t : ℕ) → write-decimal-lts.Need-same-length-2
 ) (write-decimal-at t) write-decimal.Post
 write-decimal-same-length-2 t c = search written.written-lengths
 
--- src/decimal.rt:16:1
 write-decimal-returns-2 : (t : ℕ) → write-decimal-lts.Need-returns-2 (
   digit-byte-reads.Asked,
   digit-byte-reads.Learnt,

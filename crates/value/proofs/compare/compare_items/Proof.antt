@@ -3,43 +3,33 @@ use borrow.Author.Needs.{needs}
 use Rattle.value.proofs.compare.compare_items.Statement.{statement}
 use Rattle.value.proofs.compare.compare_items.Tie as tie
 
--- src/compare.rt:152:8
 is-null-requires : tie.Need-is-null-requires
 is-null-requires c κs = search needs
 
--- src/compare.rt:153:31
 is-null-requires-2 : tie.Need-is-null-requires-2
 is-null-requires-2 c κs = search needs
 
--- src/compare.rt:153:9
 null-holds-requires : tie.Need-null-holds-requires
 null-holds-requires c κs = search needs
 
--- src/compare.rt:153:9
 returns : tie.Need-returns
 returns c = search law.left-null
 
--- src/compare.rt:155:8
 is-null-requires-3 : tie.Need-is-null-requires-3
 is-null-requires-3 c κs = search needs
 
--- src/compare.rt:156:9
 null-holds-requires-2 : tie.Need-null-holds-requires-2
 null-holds-requires-2 c κs = search needs
 
--- src/compare.rt:156:9
 returns-2 : tie.Need-returns-2
 returns-2 c = search law.right-null
 
--- src/compare.rt:158:19
 order-of-items-requires : tie.Need-order-of-items-requires
 order-of-items-requires c κs = search needs
 
--- src/compare.rt:158:5
 holds-for-requires : tie.Need-holds-for-requires
 holds-for-requires c κs = search needs
 
--- src/compare.rt:149:1
 returns-3 : tie.Need-returns-3
 returns-3 c = search law.no-null
 

@@ -3,76 +3,59 @@ use borrow.Author.Needs.{needs}
 use Rattle.value.proofs.compare.order_of_items.Statement.{statement}
 use Rattle.value.proofs.compare.order_of_items.Tie as tie
 
--- src/compare.rt:125:23
 enum-told : tie.Need-enum-told
 enum-told c = search needs
 
--- src/compare.rt:126:21
 enum-known-x : tie.Need-enum-known-x
 enum-known-x c = search needs
 
--- src/compare.rt:126:27
 order-with-truth-requires : tie.Need-order-with-truth-requires
 order-with-truth-requires c κs = search needs
 
--- src/compare.rt:127:23
 enum-known-x-2 : tie.Need-enum-known-x-2
 enum-known-x-2 c = search needs
 
--- src/compare.rt:127:29
 order-with-whole-requires : tie.Need-order-with-whole-requires
 order-with-whole-requires c κs = search needs
 
--- src/compare.rt:128:20
 enum-known-x-3 : tie.Need-enum-known-x-3
 enum-known-x-3 c = search needs
 
--- src/compare.rt:128:26
 order-with-real-requires : tie.Need-order-with-real-requires
 order-with-real-requires c κs = search needs
 
--- src/compare.rt:129:24
 enum-known-x-4 : tie.Need-enum-known-x-4
 enum-known-x-4 c = search needs
 
--- src/compare.rt:129:30
 order-with-datetime-requires : tie.Need-order-with-datetime-requires
 order-with-datetime-requires c κs = search needs
 
--- src/compare.rt:130:24
 enum-known-x-5 : tie.Need-enum-known-x-5
 enum-known-x-5 c = search needs
 
--- src/compare.rt:130:30
 order-with-sequence-requires : tie.Need-order-with-sequence-requires
 order-with-sequence-requires c κs = search needs
 
--- src/compare.rt:121:1
 returns : tie.Need-returns
 unfolding itemValue
 returns c = rw (c .enum-told .given .1)
 
--- src/compare.rt:121:1
 returns-2 : tie.Need-returns-2
 unfolding itemValue
 returns-2 c = rw (c .before .before .x .given .1) (c .order-with-truth .ensures _)
 
--- src/compare.rt:121:1
 returns-3 : tie.Need-returns-3
 unfolding itemValue
 returns-3 c = rw (c .before .before .x2 .given .1) (c .order-with-whole .ensures _)
 
--- src/compare.rt:121:1
 returns-4 : tie.Need-returns-4
 unfolding itemValue
 returns-4 c = rw (c .before .before .x3 .given .1) (c .order-with-real .ensures _)
 
--- src/compare.rt:121:1
 returns-5 : tie.Need-returns-5
 unfolding itemValue
 returns-5 c = rw (c .before .before .x4 .given .1) (c .order-with-datetime .ensures _)
 
--- src/compare.rt:121:1
 returns-6 : tie.Need-returns-6
 returns-6 c = rw (c .before .before .x5 .given .1) (c .order-with-sequence .ensures)
 

@@ -3,31 +3,24 @@ use borrow.Author.Needs.{needs}
 use Rattle.value.proofs.compare.order_of_sequences.Statement.{statement}
 use Rattle.value.proofs.compare.order_of_sequences.Tie as tie
 
--- src/compare.rt:97:9
 same-sort-requires : tie.Need-same-sort-requires
 same-sort-requires c κs = search needs
 
--- src/compare.rt:98:9
 returns : tie.Need-returns
 returns c = search law.sorts-differ
 
--- src/compare.rt:102:9
 piece-requires : tie.Need-piece-requires
 piece-requires c κs = search needs
 
--- src/compare.rt:103:9
 piece-requires-2 : tie.Need-piece-requires-2
 piece-requires-2 c κs = search needs
 
--- src/compare.rt:104:14
 same-units-requires : tie.Need-same-units-requires
 same-units-requires c κs = search needs
 
--- src/compare.rt:104:5
 equality-requires : tie.Need-equality-requires
 equality-requires c κs = search needs
 
--- src/compare.rt:92:1
 returns-2 : tie.Need-returns-2
 returns-2 c = search law.sorts-agree
 

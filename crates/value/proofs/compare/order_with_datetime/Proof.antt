@@ -6,59 +6,46 @@ use borrow.Author.Needs.{needs}
 use Rattle.value.proofs.compare.order_with_datetime.Statement.{statement}
 use Rattle.value.proofs.compare.order_with_datetime.Tie as tie
 
--- src/compare.rt:83:23
 enum-told : tie.Need-enum-told
 enum-told c = search needs
 
--- src/compare.rt:84:27
 enum-told-2 : tie.Need-enum-told-2
 enum-told-2 c = search needs
 
--- src/compare.rt:85:29
 enum-told-3 : tie.Need-enum-told-3
 enum-told-3 c = search needs
 
--- src/compare.rt:86:26
 enum-told-4 : tie.Need-enum-told-4
 enum-told-4 c = search needs
 
--- src/compare.rt:87:24
 enum-known-y : tie.Need-enum-known-y
 enum-known-y c = search needs
 
--- src/compare.rt:87:30
 order-of-datetimes-requires : tie.Need-order-of-datetimes-requires
 order-of-datetimes-requires c κs = search needs
 
--- src/compare.rt:88:30
 enum-told-5 : tie.Need-enum-told-5
 enum-told-5 c = search needs
 
--- src/compare.rt:79:1
 returns : tie.Need-returns
 returns c = law.against-null _ _ (c .enum-told .given .1)
 
--- src/compare.rt:79:1
 returns-2 : tie.Need-returns-2
 unfolding itemValue orderOfScalars
 returns-2 c = λ s. rw (c .enum-told2 .given .1)
 
--- src/compare.rt:79:1
 returns-3 : tie.Need-returns-3
 unfolding itemValue orderOfScalars
 returns-3 c = λ s. rw (c .enum-told3 .given .1)
 
--- src/compare.rt:79:1
 returns-4 : tie.Need-returns-4
 unfolding itemValue orderOfScalars
 returns-4 c = λ s. rw (c .enum-told4 .given .1)
 
--- src/compare.rt:79:1
 returns-5 : tie.Need-returns-5
 unfolding itemValue orderOfScalars
 returns-5 c = λ s. c .order-of-datetimes .ensures ∙ rw (c .before .before .y .given .1)
 
--- src/compare.rt:79:1
 returns-6 : tie.Need-returns-6
 returns-6 c = law.against-sequence _ _ law.plain-datetime _ (c .enum-told5 .given .1)
 

@@ -5,60 +5,47 @@ use borrow.Author.Needs.{needs}
 use Rattle.value.proofs.compare.order_with_sequence.Statement.{statement}
 use Rattle.value.proofs.compare.order_with_sequence.Tie as tie
 
--- src/compare.rt:111:23
 enum-told : tie.Need-enum-told
 enum-told c = search needs
 
--- src/compare.rt:112:27
 enum-told-2 : tie.Need-enum-told-2
 enum-told-2 c = search needs
 
--- src/compare.rt:113:29
 enum-told-3 : tie.Need-enum-told-3
 enum-told-3 c = search needs
 
--- src/compare.rt:114:26
 enum-told-4 : tie.Need-enum-told-4
 enum-told-4 c = search needs
 
--- src/compare.rt:115:30
 enum-told-5 : tie.Need-enum-told-5
 enum-told-5 c = search needs
 
--- src/compare.rt:116:24
 enum-known-y : tie.Need-enum-known-y
 enum-known-y c = search needs
 
--- src/compare.rt:116:30
 order-of-sequences-requires : tie.Need-order-of-sequences-requires
 order-of-sequences-requires c κs = search needs
 
--- src/compare.rt:107:1
 returns : tie.Need-returns
 unfolding itemValue orderOfScalars
 returns c = rw (c .enum-told .given .1)
 
--- src/compare.rt:107:1
 returns-2 : tie.Need-returns-2
 unfolding itemValue
 returns-2 c = rw (c .enum-told2 .given .1) (law.listed-plain law.plain-truth _ _)
 
--- src/compare.rt:107:1
 returns-3 : tie.Need-returns-3
 unfolding itemValue
 returns-3 c = rw (c .enum-told3 .given .1) (law.listed-plain law.plain-whole _ _)
 
--- src/compare.rt:107:1
 returns-4 : tie.Need-returns-4
 unfolding itemValue
 returns-4 c = rw (c .enum-told4 .given .1) (law.listed-plain law.plain-real _ _)
 
--- src/compare.rt:107:1
 returns-5 : tie.Need-returns-5
 unfolding itemValue
 returns-5 c = rw (c .enum-told5 .given .1) (law.listed-plain law.plain-datetime _ _)
 
--- src/compare.rt:107:1
 returns-6 : tie.Need-returns-6
 unfolding itemValue
 returns-6 c = rw (c .before .before .y .given .1) (c .order-of-sequences .ensures)

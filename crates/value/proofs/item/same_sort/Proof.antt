@@ -2,15 +2,12 @@ use borrow.Author.Needs.{needs}
 use Rattle.value.proofs.item.same_sort.Statement.{statement}
 use Rattle.value.proofs.item.same_sort.Tie as tie
 
--- src/item.rt:45:5
 sort-number-requires : tie.Need-sort-number-requires
 sort-number-requires c κs = search needs
 
--- src/item.rt:45:23
 sort-number-requires-2 : tie.Need-sort-number-requires-2
 sort-number-requires-2 c κs = search needs
 
--- src/item.rt:42:1
 returns : tie.Need-returns
 returns c = rw (c .before .sort-number .ensures, c .sort-number2 .ensures)
 

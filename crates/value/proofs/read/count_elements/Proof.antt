@@ -16,43 +16,33 @@ Inv-loop s at₀ n₀ at n = (count (records s 0) ≡ n + count (records s at)) 
 abbrev μ-loop : tie.MeasureT-loop
 μ-loop s at₀ n₀ at n = length s - at
 
--- src/read.rt:107:5
 loop-holds : tie.Need-loop-holds Inv-loop μ-loop
 loop-holds c = (omega arith, search needs)
 
--- src/read.rt:108:15
 record-at-requires : tie.Need-record-at-requires Inv-loop μ-loop
 record-at-requires c κs = search needs
 
--- src/read.rt:113:17
 enum-known-next : tie.Need-enum-known-next Inv-loop μ-loop
 enum-known-next c = search needs
 
--- src/read.rt:116:17
 add-n : tie.Need-add-n Inv-loop μ-loop
 add-n c = let m = reach.step-room _ _ (c .before .before .before .record-at .ensures) (c .before .next .given .1) _ (c .before .before .before .before .loop .inv .1) in omega arith
 
--- src/read.rt:107:5
 loop-less : tie.Need-loop-less Inv-loop μ-loop
 loop-less c = search reach.step-less
 
--- src/read.rt:107:5
 loop-again : tie.Need-loop-again Inv-loop μ-loop
 loop-again c = (search law.count-next, search reach.step-counts)
 
--- src/read.rt:118:33
 enum-told : tie.Need-enum-told Inv-loop μ-loop
 enum-told c = search needs
 
--- src/read.rt:118:33
 returns : tie.Need-returns Inv-loop μ-loop
 returns c = search law.count-broken
 
--- src/read.rt:119:30
 enum-told-2 : tie.Need-enum-told-2 Inv-loop μ-loop
 enum-told-2 c = search needs
 
--- src/read.rt:119:30
 returns-2 : tie.Need-returns-2 Inv-loop μ-loop
 returns-2 c = search law.count-end
 

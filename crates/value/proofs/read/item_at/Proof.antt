@@ -3,35 +3,27 @@ use borrow.Author.Needs.{needs}
 use Rattle.value.proofs.read.item_at.Statement.{statement}
 use Rattle.value.proofs.read.item_at.Tie as tie
 
--- src/read.rt:89:11
 record-at-requires : tie.Need-record-at-requires
 record-at-requires c κs = search needs
 
--- src/read.rt:91:13
 enum-known-kind : tie.Need-enum-known-kind
 enum-known-kind c = search needs
 
--- src/read.rt:95:14
 read-item-requires : tie.Need-read-item-requires
 read-item-requires c κs = search needs
 
--- src/read.rt:96:29
 enum-told : tie.Need-enum-told
 enum-told c = search needs
 
--- src/read.rt:97:26
 enum-told-2 : tie.Need-enum-told-2
 enum-told-2 c = search needs
 
--- src/read.rt:86:1
 returns : tie.Need-returns
 returns c = search law.record-value
 
--- src/read.rt:86:1
 returns-2 : tie.Need-returns-2
 returns-2 c = search law.record-broken
 
--- src/read.rt:86:1
 returns-3 : tie.Need-returns-3
 returns-3 c = search law.record-missing
 

@@ -5,110 +5,85 @@ use borrow.Author.Needs.{needs}
 use Rattle.value.proofs.read.read_family.Statement.{statement}
 use Rattle.value.proofs.read.read_family.Tie as tie
 
--- src/read.rt:61:9
 piece-requires : tie.Need-piece-requires
 piece-requires c κs = search needs
 
--- src/read.rt:63:40
 enum-told : tie.Need-enum-told
 enum-told c = search needs
 
--- src/read.rt:63:40
 byte-at-requires : tie.Need-byte-at-requires
 byte-at-requires c κs = search needs
 
--- src/read.rt:64:42
 enum-told-2 : tie.Need-enum-told-2
 enum-told-2 c = search needs
 
--- src/read.rt:64:42
 read-whole-requires : tie.Need-read-whole-requires
 read-whole-requires c κs = search needs
 
--- src/read.rt:65:36
 enum-told-3 : tie.Need-enum-told-3
 enum-told-3 c = search needs
 
--- src/read.rt:65:36
 read-real-requires : tie.Need-read-real-requires
 read-real-requires c κs = search needs
 
--- src/read.rt:66:37
 enum-told-4 : tie.Need-enum-told-4
 enum-told-4 c = search needs
 
--- src/read.rt:66:25
 sequence-of-requires : tie.Need-sequence-of-requires
 sequence-of-requires c κs = search needs
 
--- src/read.rt:67:39
 enum-told-5 : tie.Need-enum-told-5
 enum-told-5 c = search needs
 
--- src/read.rt:67:27
 sequence-of-requires-2 : tie.Need-sequence-of-requires-2
 sequence-of-requires-2 c κs = search needs
 
--- src/read.rt:68:39
 enum-told-6 : tie.Need-enum-told-6
 enum-told-6 c = search needs
 
--- src/read.rt:68:27
 sequence-of-requires-3 : tie.Need-sequence-of-requires-3
 sequence-of-requires-3 c κs = search needs
 
--- src/read.rt:69:44
 enum-told-7 : tie.Need-enum-told-7
 enum-told-7 c = search needs
 
--- src/read.rt:69:44
 read-datetime-requires : tie.Need-read-datetime-requires
 read-datetime-requires c κs = search needs
 
--- src/read.rt:70:42
 enum-told-8 : tie.Need-enum-told-8
 enum-told-8 c = search needs
 
--- src/read.rt:70:30
 sequence-of-requires-4 : tie.Need-sequence-of-requires-4
 sequence-of-requires-4 c κs = search needs
 
--- src/read.rt:58:1
 returns : tie.Need-returns
 unfolding itemValue familyValue
 returns c = rw (c .before .enum-told .given .1, c .byte-at .ensures, c .before .before .before .piece .ensures)
 
--- src/read.rt:58:1
 returns-2 : tie.Need-returns-2
 unfolding itemValue familyValue
 returns-2 c = rw (c .before .enum-told2 .given .1, c .read-whole .ensures, c .before .before .before .piece .ensures)
 
--- src/read.rt:58:1
 returns-3 : tie.Need-returns-3
 unfolding itemValue familyValue
 returns-3 c = rw (c .before .enum-told3 .given .1, c .read-real .ensures, c .before .before .before .piece .ensures)
 
--- src/read.rt:58:1
 returns-4 : tie.Need-returns-4
 unfolding itemValue familyValue listed unitsFrom
 returns-4 c = rw (c .sequence-of .ensures, c .before .enum-told4 .given .1)
 
--- src/read.rt:58:1
 returns-5 : tie.Need-returns-5
 unfolding itemValue familyValue listed unitsFrom
 returns-5 c = rw (c .sequence-of2 .ensures, c .before .enum-told5 .given .1)
 
--- src/read.rt:58:1
 returns-6 : tie.Need-returns-6
 unfolding itemValue familyValue listed unitsFrom
 returns-6 c = rw (c .sequence-of3 .ensures, c .before .enum-told6 .given .1)
 
--- src/read.rt:58:1
 returns-7 : tie.Need-returns-7
 unfolding itemValue familyValue
 returns-7 c = rw (c .before .enum-told7 .given .1, c .read-datetime .ensures, c .before .before .before .piece .ensures)
 
--- src/read.rt:58:1
 returns-8 : tie.Need-returns-8
 unfolding itemValue familyValue listed unitsFrom
 returns-8 c = rw (c .sequence-of4 .ensures, c .before .enum-told8 .given .1)

@@ -3,15 +3,12 @@ use borrow.Author.Needs.{needs}
 use Rattle.value.proofs.read.read_item.Statement.{statement}
 use Rattle.value.proofs.read.read_item.Tie as tie
 
--- src/read.rt:79:9
 returns : tie.Need-returns
 returns c = search law.item-null
 
--- src/read.rt:82:5
 read-family-requires : tie.Need-read-family-requires
 read-family-requires c κs = search needs
 
--- src/read.rt:75:1
 returns-2 : tie.Need-returns-2
 returns-2 c = search law.item-some
 

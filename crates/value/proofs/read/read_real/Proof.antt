@@ -3,19 +3,15 @@ use borrow.Author.Needs.{needs}
 use Rattle.value.proofs.read.read_real.Statement.{statement}
 use Rattle.value.proofs.read.read_real.Tie as tie
 
--- src/read.rt:41:9
 real32-in-requires : tie.Need-real32-in-requires
 real32-in-requires c κs = search needs
 
--- src/read.rt:41:9
 returns : tie.Need-returns
 returns c = c .real32-in .ensures ∙ rw (c .before .if1 .taken)
 
--- src/read.rt:43:5
 real64-in-requires : tie.Need-real64-in-requires
 real64-in-requires c κs = search needs
 
--- src/read.rt:37:1
 returns-2 : tie.Need-returns-2
 returns-2 c = c .real64-in .ensures ∙ rw (borrow.Author.Tests.ne-eqb _ _ (c .before .if1 .left))
 

@@ -3,19 +3,15 @@ use borrow.Author.Needs.{needs}
 use Rattle.value.proofs.read.read_whole.Statement.{statement}
 use Rattle.value.proofs.read.read_whole.Tie as tie
 
--- src/read.rt:32:9
 signed-in-requires : tie.Need-signed-in-requires
 signed-in-requires c κs = search needs
 
--- src/read.rt:32:9
 returns : tie.Need-returns
 returns c = c .signed-in .ensures ∙ rw (c .before .if1 .taken)
 
--- src/read.rt:34:16
 unsigned-in-requires : tie.Need-unsigned-in-requires
 unsigned-in-requires c κs = search needs
 
--- src/read.rt:28:1
 returns-2 : tie.Need-returns-2
 returns-2 c = rw (c .unsigned-in .ensures, c .before .if1 .left)
 

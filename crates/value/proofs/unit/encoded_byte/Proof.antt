@@ -3,31 +3,24 @@ use Rattle.value.proofs.Laws as law
 use Rattle.value.proofs.unit.encoded_byte.Statement.{statement}
 use Rattle.value.proofs.unit.encoded_byte.Tie as tie
 
--- src/unit.rt:146:9
 returns : tie.Need-returns
 returns c = search law.one-byte
 
--- src/unit.rt:149:9
 byte-of-two-requires : tie.Need-byte-of-two-requires
 byte-of-two-requires c κs = (search needs, search law.two-room)
 
--- src/unit.rt:149:9
 returns-2 : tie.Need-returns-2
 returns-2 c = search law.two-byte
 
--- src/unit.rt:152:9
 byte-of-three-requires : tie.Need-byte-of-three-requires
 byte-of-three-requires c κs = (search needs, search law.three-room)
 
--- src/unit.rt:152:9
 returns-3 : tie.Need-returns-3
 returns-3 c = search law.three-byte
 
--- src/unit.rt:154:5
 byte-of-four-requires : tie.Need-byte-of-four-requires
 byte-of-four-requires c κs = (search needs, search law.four-room)
 
--- src/unit.rt:141:1
 returns-4 : tie.Need-returns-4
 returns-4 c = search law.four-byte
 

@@ -3,19 +3,15 @@ use Rattle.value.proofs.Laws as law
 use Rattle.value.proofs.unit.encoded_length.Statement.{statement}
 use Rattle.value.proofs.unit.encoded_length.Tie as tie
 
--- src/unit.rt:129:9
 returns : tie.Need-returns
 returns c = (search law.one-length, search needs)
 
--- src/unit.rt:132:9
 returns-2 : tie.Need-returns-2
 returns-2 c = (search law.two-length, search needs)
 
--- src/unit.rt:135:9
 returns-3 : tie.Need-returns-3
 returns-3 c = (search law.three-length, search needs)
 
--- src/unit.rt:125:1
 returns-4 : tie.Need-returns-4
 returns-4 c = (search law.four-length, search needs)
 

@@ -3,23 +3,18 @@ use borrow.Author.Needs.{needs}
 use Rattle.value.proofs.unit.next_byte.Statement.{statement}
 use Rattle.value.proofs.unit.next_byte.Tie as tie
 
--- src/unit.rt:37:33
 shared-slice-read-widen : tie.Need-shared-slice-read-widen
 shared-slice-read-widen c = search needs
 
--- src/unit.rt:37:27
 widen-requires : tie.Need-widen-requires
 widen-requires c κs = search needs
 
--- src/unit.rt:37:54
 add-t9 : tie.Need-add-t9
 add-t9 c = search needs
 
--- src/unit.rt:37:9
 returns : tie.Need-returns
 returns c = search law.byte-next
 
--- src/unit.rt:33:1
 returns-2 : tie.Need-returns-2
 returns-2 c = search law.byte-end
 

@@ -3,15 +3,12 @@ use borrow.Author.Needs.{needs}
 use Rattle.value.proofs.unit.next_char16.Statement.{statement}
 use Rattle.value.proofs.unit.next_char16.Tie as tie
 
--- src/unit.rt:56:27
 number-at-requires : tie.Need-number-at-requires
 number-at-requires c κs = search needs
 
--- src/unit.rt:56:9
 returns : tie.Need-returns
 returns c = search law.char16-next
 
--- src/unit.rt:52:1
 returns-2 : tie.Need-returns-2
 returns-2 c = search law.char16-end
 

@@ -3,51 +3,39 @@ use borrow.Author.Needs.{needs}
 use Rattle.value.proofs.unit.next_pair.Statement.{statement}
 use Rattle.value.proofs.unit.next_pair.Tie as tie
 
--- src/unit.rt:65:9
 returns : tie.Need-returns
 returns c = search law.pair-end
 
--- src/unit.rt:67:8
 sub-if2 : tie.Need-sub-if2
 sub-if2 c = search needs
 
--- src/unit.rt:68:9
 returns-2 : tie.Need-returns-2
 returns-2 c = search law.pair-half
 
--- src/unit.rt:70:25
 shared-slice-read-digit-of : tie.Need-shared-slice-read-digit-of
 shared-slice-read-digit-of c = search needs
 
--- src/unit.rt:70:9
 digit-of-requires : tie.Need-digit-of-requires
 digit-of-requires c κs = search needs
 
--- src/unit.rt:71:26
 add-digit-of : tie.Need-add-digit-of
 add-digit-of c = search needs
 
--- src/unit.rt:71:24
 shared-slice-read-digit-of-2 : tie.Need-shared-slice-read-digit-of-2
 shared-slice-read-digit-of-2 c = search needs
 
--- src/unit.rt:71:9
 digit-of-requires-2 : tie.Need-digit-of-requires-2
 digit-of-requires-2 c κs = search needs
 
--- src/unit.rt:72:16
 mul-t11 : tie.Need-mul-t11
 mul-t11 c = search needs
 
--- src/unit.rt:72:16
 add-t12 : tie.Need-add-t12
 add-t12 c = search needs
 
--- src/unit.rt:72:44
 add-t7 : tie.Need-add-t7
 add-t7 c = search needs
 
--- src/unit.rt:61:1
 returns-3 : tie.Need-returns-3
 returns-3 c = search law.pair-next
 

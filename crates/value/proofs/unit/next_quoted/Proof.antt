@@ -3,35 +3,27 @@ use borrow.Author.Needs.{needs}
 use Rattle.value.proofs.unit.next_quoted.Statement.{statement}
 use Rattle.value.proofs.unit.next_quoted.Tie as tie
 
--- src/unit.rt:78:11
 char-in-string-requires : tie.Need-char-in-string-requires
 char-in-string-requires c κs = search needs
 
--- src/unit.rt:79:29
 enum-known-v : tie.Need-enum-known-v
 enum-known-v c = search needs
 
--- src/unit.rt:79:52
 cast-t7 : tie.Need-cast-t7
 cast-t7 c = search needs
 
--- src/unit.rt:80:28
 enum-told : tie.Need-enum-told
 enum-told c = search needs
 
--- src/unit.rt:81:26
 enum-told-2 : tie.Need-enum-told-2
 enum-told-2 c = search needs
 
--- src/unit.rt:75:1
 returns : tie.Need-returns
 returns c = search law.quoted-next
 
--- src/unit.rt:75:1
 returns-2 : tie.Need-returns-2
 returns-2 c = search law.quoted-close
 
--- src/unit.rt:75:1
 returns-3 : tie.Need-returns-3
 returns-3 c = search law.quoted-bad
 

@@ -2,75 +2,57 @@ use borrow.Author.Needs.{needs}
 use Rattle.value.proofs.unit.next_unit.Statement.{statement}
 use Rattle.value.proofs.unit.next_unit.Tie as tie
 
--- src/unit.rt:182:24
 enum-told : tie.Need-enum-told
 enum-told c = search needs
 
--- src/unit.rt:182:24
 next-byte-requires : tie.Need-next-byte-requires
 next-byte-requires c κs = search needs
 
--- src/unit.rt:183:23
 enum-told-2 : tie.Need-enum-told-2
 enum-told-2 c = search needs
 
--- src/unit.rt:183:23
 next-character-requires : tie.Need-next-character-requires
 next-character-requires c κs = search needs
 
--- src/unit.rt:184:25
 enum-told-3 : tie.Need-enum-told-3
 enum-told-3 c = search needs
 
--- src/unit.rt:184:25
 next-char16-requires : tie.Need-next-char16-requires
 next-char16-requires c κs = search needs
 
--- src/unit.rt:185:22
 enum-told-4 : tie.Need-enum-told-4
 enum-told-4 c = search needs
 
--- src/unit.rt:185:22
 next-pair-requires : tie.Need-next-pair-requires
 next-pair-requires c κs = search needs
 
--- src/unit.rt:186:25
 enum-told-5 : tie.Need-enum-told-5
 enum-told-5 c = search needs
 
--- src/unit.rt:186:25
 next-quoted-requires : tie.Need-next-quoted-requires
 next-quoted-requires c κs = search needs
 
--- src/unit.rt:187:23
 enum-known-form : tie.Need-enum-known-form
 enum-known-form c = search needs
 
--- src/unit.rt:187:35
 next-encoded-requires : tie.Need-next-encoded-requires
 next-encoded-requires c κs = search needs
 
--- src/unit.rt:178:1
 returns : tie.Need-returns
 returns c = rw (c .before .enum-told .given .1) (c .next-byte .ensures)
 
--- src/unit.rt:178:1
 returns-2 : tie.Need-returns-2
 returns-2 c = rw (c .before .enum-told2 .given .1) (c .next-character .ensures)
 
--- src/unit.rt:178:1
 returns-3 : tie.Need-returns-3
 returns-3 c = rw (c .before .enum-told3 .given .1) (c .next-char16 .ensures)
 
--- src/unit.rt:178:1
 returns-4 : tie.Need-returns-4
 returns-4 c = rw (c .before .enum-told4 .given .1) (c .next-pair .ensures)
 
--- src/unit.rt:178:1
 returns-5 : tie.Need-returns-5
 returns-5 c = rw (c .before .enum-told5 .given .1) (c .next-quoted .ensures)
 
--- src/unit.rt:178:1
 returns-6 : tie.Need-returns-6
 returns-6 c = rw (c .before .before .form .given .1) (c .next-encoded .ensures)
 

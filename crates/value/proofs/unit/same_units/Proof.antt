@@ -13,67 +13,51 @@ Inv-loop a i b j left₀ at₀ right₀ beside₀ left at right beside = sameByt
 abbrev μ-loop : tie.MeasureT-loop
 μ-loop a i b j left₀ at₀ right₀ beside₀ left at right beside = length (unitsFrom left a at)
 
--- src/unit.rt:199:5
 loop-holds : tie.Need-loop-holds Inv-loop μ-loop
 loop-holds c = refl
 
--- src/unit.rt:200:15
 next-unit-requires : tie.Need-next-unit-requires Inv-loop μ-loop
 next-unit-requires c κs = search needs
 
--- src/unit.rt:201:24
 enum-known-x : tie.Need-enum-known-x Inv-loop μ-loop
 enum-known-x c = search needs
 
--- src/unit.rt:201:49
 next-unit-requires-2 : tie.Need-next-unit-requires-2 Inv-loop μ-loop
 next-unit-requires-2 c κs = search needs
 
--- src/unit.rt:202:28
 enum-known-y : tie.Need-enum-known-y Inv-loop μ-loop
 enum-known-y c = search needs
 
--- src/unit.rt:204:25
 returns : tie.Need-returns Inv-loop μ-loop
 returns c = search law.units-differ
 
--- src/unit.rt:199:5
 loop-less : tie.Need-loop-less Inv-loop μ-loop
 loop-less c = search law.units-fewer
 
--- src/unit.rt:199:5
 loop-again : tie.Need-loop-again Inv-loop μ-loop
 loop-again c = search law.units-next
 
--- src/unit.rt:211:30
 enum-told : tie.Need-enum-told Inv-loop μ-loop
 enum-told c = search needs
 
--- src/unit.rt:211:30
 returns-2 : tie.Need-returns-2 Inv-loop μ-loop
 returns-2 c = search law.units-longer
 
--- src/unit.rt:213:32
 enum-told-2 : tie.Need-enum-told-2 Inv-loop μ-loop
 enum-told-2 c = search needs
 
--- src/unit.rt:213:32
 next-unit-requires-3 : tie.Need-next-unit-requires-3 Inv-loop μ-loop
 next-unit-requires-3 c κs = search needs
 
--- src/unit.rt:214:40
 enum-told-3 : tie.Need-enum-told-3 Inv-loop μ-loop
 enum-told-3 c = search needs
 
--- src/unit.rt:214:40
 returns-3 : tie.Need-returns-3 Inv-loop μ-loop
 returns-3 c = search law.units-shorter
 
--- src/unit.rt:215:30
 enum-told-4 : tie.Need-enum-told-4 Inv-loop μ-loop
 enum-told-4 c = search needs
 
--- src/unit.rt:215:30
 returns-4 : tie.Need-returns-4 Inv-loop μ-loop
 returns-4 c = search law.units-both-end
 

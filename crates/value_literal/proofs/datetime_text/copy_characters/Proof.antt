@@ -17,75 +17,57 @@ Inv-loop q at out₀ i₀ n₀ out i n = (charactersOf (textAt q at) ≡ take n 
 abbrev μ-loop : tie.MeasureT-loop
 μ-loop q at out₀ i₀ n₀ out i n = length q - i
 
--- src/datetime_text.rt:25:5
 loop-holds : tie.Need-loop-holds Inv-loop μ-loop
 loop-holds c = (refl, search needs, search needs)
 
--- src/datetime_text.rt:26:15
 char-in-string-requires : tie.Need-char-in-string-requires Inv-loop μ-loop
 char-in-string-requires c κs = search needs
 
--- src/datetime_text.rt:27:33
 enum-known-v : tie.Need-enum-known-v Inv-loop μ-loop
 enum-known-v c = search needs
 
--- src/datetime_text.rt:29:21
 same-length : tie.Need-same-length Inv-loop μ-loop
 same-length c = search needs
 
--- src/datetime_text.rt:29:21
 returns : tie.Need-returns Inv-loop μ-loop
 returns c = law.copied-over _ _ _ _ (c .before .before .before .before .before .loop .inv .0) (c .before .before .before .before .before .loop .inv .2) _ _ (next-character _ _ (c .before .before .before .before .char-in-string .ensures .0) _ _ (c .before .before .v .given .1)) (c .before .before .before .before .before .loop .inv .1) (omega arith)
 
--- src/datetime_text.rt:32:21
 same-length-2 : tie.Need-same-length-2 Inv-loop μ-loop
 same-length-2 c = search needs
 
--- src/datetime_text.rt:32:21
 returns-2 : tie.Need-returns-2 Inv-loop μ-loop
 returns-2 c = law.wide-at _ _ _ (c .before .before .before .before .before .before .loop .out) (c .before .before .before .before .before .before .loop .n) (c .before .before .before .before .before .before .loop .inv .0) (c .before .before .before .before .before .before .loop .inv .2) (c .before .before .before .before .before .char-in-string .ensures .0) _ _ (c .before .before .before .v .given .1) (omega arith) (c .if2 .taken)
 
--- src/datetime_text.rt:34:26
 cast-out : tie.Need-cast-out Inv-loop μ-loop
 cast-out c = search needs
 
--- src/datetime_text.rt:34:17
 slice-write-out : tie.Need-slice-write-out Inv-loop μ-loop
 slice-write-out c = search needs
 
--- src/datetime_text.rt:35:17
 add-n : tie.Need-add-n Inv-loop μ-loop
 add-n c = search needs
 
--- src/datetime_text.rt:25:5
 loop-less : tie.Need-loop-less Inv-loop μ-loop
 loop-less c = let m = moved (c .before .before .before .before .before .char-in-string .ensures .1) (c .before .before .before .v .given .1) in omega arith
 
--- src/datetime_text.rt:25:5
 loop-again : tie.Need-loop-again Inv-loop μ-loop
 loop-again c = (step-in _ _ _ (c .before .before .before .before .before .before .loop .out) (c .before .before .before .before .before .before .loop .n) _ (c .before .before .before .before .before .char-in-string .ensures .0) (c .before .before .before .v .given .1) (c .before .before .before .before .before .before .loop .inv .0) (c .before .before .before .before .before .before .loop .inv .2) (omega arith), omega arith, search needs)
 
--- src/datetime_text.rt:38:32
 enum-told : tie.Need-enum-told Inv-loop μ-loop
 enum-told c = search needs
 
--- src/datetime_text.rt:38:32
 same-length-3 : tie.Need-same-length-3 Inv-loop μ-loop
 same-length-3 c = search needs
 
--- src/datetime_text.rt:38:32
 returns-3 : tie.Need-returns-3 Inv-loop μ-loop
 returns-3 c = law.copied-all _ _ (c .before .before .before .loop .out) (c .before .before .before .loop .n) (c .before .before .before .loop .inv .0) (c .before .before .before .loop .inv .2) (at-close _ _ (c .before .before .char-in-string .ensures .0) (c .enum-told .given .1))
 
--- src/datetime_text.rt:39:30
 enum-told-2 : tie.Need-enum-told-2 Inv-loop μ-loop
 enum-told-2 c = search needs
 
--- src/datetime_text.rt:39:30
 same-length-4 : tie.Need-same-length-4 Inv-loop μ-loop
 same-length-4 c = search needs
 
--- src/datetime_text.rt:39:30
 returns-4 : tie.Need-returns-4 Inv-loop μ-loop
 returns-4 c = law.copied-all _ _ (c .before .before .before .loop .out) (c .before .before .before .loop .n) (c .before .before .before .loop .inv .0) (c .before .before .before .loop .inv .2) (at-bad _ _ (c .before .before .char-in-string .ensures .0) (c .enum-told2 .given .1))
 
