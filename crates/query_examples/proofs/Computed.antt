@@ -19,30 +19,13 @@ use Rattle.query_text.specs.Query.{atEnd, openGroup, outerBy, afterGroup, outer
 use Rattle.query_text.specs.Text.{encodedVerdict, textVerdict}
 use Rattle.query_examples.specs.Queries.{times, answer, answers, accepted, grammarFaults, encodingFaults, comparisonLimit, groupedLimit, elementLimit, lengthLimit}
 
-pub accepted-right : results answer accepted ≡ expected accepted
+pub queries-right :
+    (results answer accepted ≡ expected accepted)
+    × (results answers grammarFaults ≡ expected grammarFaults)
+    × (results answer encodingFaults ≡ expected encodingFaults)
+    × (results answer comparisonLimit ≡ expected comparisonLimit)
+    × (results answer groupedLimit ≡ expected groupedLimit)
+    × (results answer elementLimit ≡ expected elementLimit)
+    × (results answer lengthLimit ≡ expected lengthLimit)
 unfolding times encodedVerdict textVerdict illFormedFrom same word literal comparing joining quantifying opening unsigned oneMore dotted property closeIndex indexNumber indexed withIndex withPath reference leftOf leftBy leftAt leftSide notLike like operationBy operation elements listFrom arrayLiteral operandOf operand pattern rightSide compOf compOperation compLeft propertyComp atEnd openGroup outerBy afterGroup outer joinBy joinAfter nextOf nextBy nextComparison before queryFrom startAt queryStart query verdict tokenAfter apart wordOrNumber tokenAt tokenFrom longestAt symbolToken symbolOf singleKind pairKind textToken numberToken wordToken wordKind longer fitted isToken signed unsignedInteger decimalLiteral binaryBody binaryLiteral hexPairs hexBody hexLiteral exactNumeric exponentPart realBody realLiteral textAt endOr stringLiteral unicodeChar rawAt plainEscape hexRun unicodeEscape escapeAt charAt valueOf digitOf white inClass span run inRange fits sequenceIn sequenceAt isScalarValue scalarOf scalarAt walk from within letter nameByte sameName lower
-accepted-right = refl
-
-pub grammar-faults : results answers grammarFaults ≡ expected grammarFaults
-unfolding times encodedVerdict textVerdict illFormedFrom same word literal comparing joining quantifying opening unsigned oneMore dotted property closeIndex indexNumber indexed withIndex withPath reference leftOf leftBy leftAt leftSide notLike like operationBy operation elements listFrom arrayLiteral operandOf operand pattern rightSide compOf compOperation compLeft propertyComp atEnd openGroup outerBy afterGroup outer joinBy joinAfter nextOf nextBy nextComparison before queryFrom startAt queryStart query verdict tokenAfter apart wordOrNumber tokenAt tokenFrom longestAt symbolToken symbolOf singleKind pairKind textToken numberToken wordToken wordKind longer fitted isToken signed unsignedInteger decimalLiteral binaryBody binaryLiteral hexPairs hexBody hexLiteral exactNumeric exponentPart realBody realLiteral textAt endOr stringLiteral unicodeChar rawAt plainEscape hexRun unicodeEscape escapeAt charAt valueOf digitOf white inClass span run inRange fits sequenceIn sequenceAt isScalarValue scalarOf scalarAt walk from within letter nameByte sameName lower
-grammar-faults = refl
-
-pub encoding-faults : results answer encodingFaults ≡ expected encodingFaults
-unfolding times encodedVerdict textVerdict illFormedFrom same word literal comparing joining quantifying opening unsigned oneMore dotted property closeIndex indexNumber indexed withIndex withPath reference leftOf leftBy leftAt leftSide notLike like operationBy operation elements listFrom arrayLiteral operandOf operand pattern rightSide compOf compOperation compLeft propertyComp atEnd openGroup outerBy afterGroup outer joinBy joinAfter nextOf nextBy nextComparison before queryFrom startAt queryStart query verdict tokenAfter apart wordOrNumber tokenAt tokenFrom longestAt symbolToken symbolOf singleKind pairKind textToken numberToken wordToken wordKind longer fitted isToken signed unsignedInteger decimalLiteral binaryBody binaryLiteral hexPairs hexBody hexLiteral exactNumeric exponentPart realBody realLiteral textAt endOr stringLiteral unicodeChar rawAt plainEscape hexRun unicodeEscape escapeAt charAt valueOf digitOf white inClass span run inRange fits sequenceIn sequenceAt isScalarValue scalarOf scalarAt walk from within letter nameByte sameName lower
-encoding-faults = refl
-
-pub comparison-limit : results answer comparisonLimit ≡ expected comparisonLimit
-unfolding times encodedVerdict textVerdict illFormedFrom same word literal comparing joining quantifying opening unsigned oneMore dotted property closeIndex indexNumber indexed withIndex withPath reference leftOf leftBy leftAt leftSide notLike like operationBy operation elements listFrom arrayLiteral operandOf operand pattern rightSide compOf compOperation compLeft propertyComp atEnd openGroup outerBy afterGroup outer joinBy joinAfter nextOf nextBy nextComparison before queryFrom startAt queryStart query verdict tokenAfter apart wordOrNumber tokenAt tokenFrom longestAt symbolToken symbolOf singleKind pairKind textToken numberToken wordToken wordKind longer fitted isToken signed unsignedInteger decimalLiteral binaryBody binaryLiteral hexPairs hexBody hexLiteral exactNumeric exponentPart realBody realLiteral textAt endOr stringLiteral unicodeChar rawAt plainEscape hexRun unicodeEscape escapeAt charAt valueOf digitOf white inClass span run inRange fits sequenceIn sequenceAt isScalarValue scalarOf scalarAt walk from within letter nameByte sameName lower
-comparison-limit = refl
-
-pub grouped-limit : results answer groupedLimit ≡ expected groupedLimit
-unfolding times encodedVerdict textVerdict illFormedFrom same word literal comparing joining quantifying opening unsigned oneMore dotted property closeIndex indexNumber indexed withIndex withPath reference leftOf leftBy leftAt leftSide notLike like operationBy operation elements listFrom arrayLiteral operandOf operand pattern rightSide compOf compOperation compLeft propertyComp atEnd openGroup outerBy afterGroup outer joinBy joinAfter nextOf nextBy nextComparison before queryFrom startAt queryStart query verdict tokenAfter apart wordOrNumber tokenAt tokenFrom longestAt symbolToken symbolOf singleKind pairKind textToken numberToken wordToken wordKind longer fitted isToken signed unsignedInteger decimalLiteral binaryBody binaryLiteral hexPairs hexBody hexLiteral exactNumeric exponentPart realBody realLiteral textAt endOr stringLiteral unicodeChar rawAt plainEscape hexRun unicodeEscape escapeAt charAt valueOf digitOf white inClass span run inRange fits sequenceIn sequenceAt isScalarValue scalarOf scalarAt walk from within letter nameByte sameName lower
-grouped-limit = refl
-
-pub element-limit : results answer elementLimit ≡ expected elementLimit
-unfolding times encodedVerdict textVerdict illFormedFrom same word literal comparing joining quantifying opening unsigned oneMore dotted property closeIndex indexNumber indexed withIndex withPath reference leftOf leftBy leftAt leftSide notLike like operationBy operation elements listFrom arrayLiteral operandOf operand pattern rightSide compOf compOperation compLeft propertyComp atEnd openGroup outerBy afterGroup outer joinBy joinAfter nextOf nextBy nextComparison before queryFrom startAt queryStart query verdict tokenAfter apart wordOrNumber tokenAt tokenFrom longestAt symbolToken symbolOf singleKind pairKind textToken numberToken wordToken wordKind longer fitted isToken signed unsignedInteger decimalLiteral binaryBody binaryLiteral hexPairs hexBody hexLiteral exactNumeric exponentPart realBody realLiteral textAt endOr stringLiteral unicodeChar rawAt plainEscape hexRun unicodeEscape escapeAt charAt valueOf digitOf white inClass span run inRange fits sequenceIn sequenceAt isScalarValue scalarOf scalarAt walk from within letter nameByte sameName lower
-element-limit = refl
-
-pub length-limit : results answer lengthLimit ≡ expected lengthLimit
-unfolding times encodedVerdict textVerdict illFormedFrom same word literal comparing joining quantifying opening unsigned oneMore dotted property closeIndex indexNumber indexed withIndex withPath reference leftOf leftBy leftAt leftSide notLike like operationBy operation elements listFrom arrayLiteral operandOf operand pattern rightSide compOf compOperation compLeft propertyComp atEnd openGroup outerBy afterGroup outer joinBy joinAfter nextOf nextBy nextComparison before queryFrom startAt queryStart query verdict tokenAfter apart wordOrNumber tokenAt tokenFrom longestAt symbolToken symbolOf singleKind pairKind textToken numberToken wordToken wordKind longer fitted isToken signed unsignedInteger decimalLiteral binaryBody binaryLiteral hexPairs hexBody hexLiteral exactNumeric exponentPart realBody realLiteral textAt endOr stringLiteral unicodeChar rawAt plainEscape hexRun unicodeEscape escapeAt charAt valueOf digitOf white inClass span run inRange fits sequenceIn sequenceAt isScalarValue scalarOf scalarAt walk from within letter nameByte sameName lower
-length-limit = refl
+queries-right = (refl, refl, refl, refl, refl, refl, refl)
