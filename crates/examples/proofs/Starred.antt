@@ -78,6 +78,7 @@ use Rattle.run.specs.Totals as run-totals
 use Rattle.mark.specs.Mark as mark-mark
 use Rattle.text_writer.specs.Decimal as text-writer-decimal
 use Rattle.report.specs.Line as report-line
+use Rattle.report.specs.Text as report-text
 use Rattle.report.specs.Output as report-output
 use Rattle.examples.specs.Starred.{outcomes, starred}
 use Rattle.examples.specs.Marks.{outcome, calls}
@@ -162,8 +163,9 @@ unfolding
     run-totals.count
     mark-mark.mark mark-mark.marksAfter
     text-writer-decimal.digitsWithin text-writer-decimal.decimal
-    report-line.ending report-line.line report-line.refusedLine report-line.answerLines
-    report-output.output
+    report-line.spaced report-line.line report-line.refusedLine report-line.spacedTotals report-line.totalLine report-line.answerLines
+    report-text.ended report-text.text
+    report-output.outputLines
 every-one = (refl, refl, refl)
 
 pub starred-right : results outcomes starred ≡ expected starred

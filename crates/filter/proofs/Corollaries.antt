@@ -6,12 +6,9 @@ use mathlib.Core.Bool.{Bool, true, false}
 use native.Mathlib.Omega.{arith}
 use lib.ListN.{length}
 use Rattle.record.specs.Record.{Fit, records}
-use Rattle.table.specs.Table.{FreeOfFaults, IsGood, tableReading}
 use Rattle.table.specs.Properties.{kindsOf}
 use Rattle.table.specs.declared.lookup.Found.{Found}
 use Rattle.table.specs.declared.lookup.Found.the-variants as found
-use Rattle.table.specs.declared.validate.TableReading.{TableReading}
-use Rattle.table.specs.declared.validate.TableReading.the-variants as table-reading
 use Rattle.instance.specs.Conforms.{Conforms}
 use Rattle.instance.specs.Fault.{conformity}
 use Rattle.instance.specs.Value.{Entry, environment}
@@ -26,8 +23,8 @@ use Rattle.syntax.specs.declared.path.Path as path
 use Rattle.operand.specs.Named.{named}
 use Rattle.judge.specs.Meaning.{meaning}
 use Rattle.judge.specs.Environment.{entryFound, entryNamed}
-use Rattle.filter.specs.Refusal.{numberOf, Call, refused, compares, callUnder, callOf}
-use Rattle.filter.specs.Check.{checkCall, check}
+use Rattle.filter.specs.Refusal.{numberOf, Call, refused, compares, callOf}
+use Rattle.filter.specs.Check.{check}
 use Rattle.filter.specs.Meaning.{queryMeaning, querySteps}
 use Rattle.filter.specs.Evaluate.{meantIn, answer, answerIf, answerOf, evaluateCall, evaluate, steps}
 use Rattle.filter.specs.Demand3.{Answered, instanceRefused, instanceTooLong, InstanceRefusals}
@@ -36,16 +33,7 @@ use Rattle.filter.specs.declared.refusal.Answer.{Answer}
 use Rattle.filter.specs.declared.refusal.Answer.the-variants.{Included, Excluded, Refused}
 use Rattle.filter.proofs.QueryAgree.{truthCall}
 use Rattle.filter.proofs.Demand3.{demand3}
-use Rattle.filter.proofs.Laws.{evaluates}
-
--- a query is accepted under a table free of 2 and 3 only
-pub accepted-free : (q t : List ℕ) → check q t ≡ checked.Accepted → FreeOfFaults t
-unfolding check callOf
-accepted-free q t e = go (tableReading t) e
-  where
-    go : (r : TableReading) → checkCall q t (callUnder q r) ≡ checked.Accepted → IsGood r
-    go (table-reading.Good n) h = tt
-    go (table-reading.Fault c p) h = let z : _≡_ {A = ℕ} 0 1 = cc in absurd (omega arith)
+use Rattle.filter.proofs.Laws.{accepted-free, evaluates}
 
 -- ---- 30 and 31
 -- an answer's number and place; of an answer that is no refusal, 0

@@ -11,7 +11,7 @@ use Rattle.base.specs.Pick.{pick}
 use Rattle.unicode.specs.declared.text.Utf8.{Utf8}
 use Rattle.unicode.specs.declared.text.Utf8.the-variants as Utf8
 use Rattle.unicode.specs.WellFormed.{firstIllFormed}
-use Rattle.table.specs.Table.{tableReading}
+use Rattle.table.specs.Table.{FreeOfFaults, IsGood, tableReading}
 use Rattle.table.specs.declared.validate.TableReading.{TableReading}
 use Rattle.table.specs.declared.validate.TableReading.the-variants as table-reading
 use Rattle.table.specs.declared.validate.TableFault.{TableFault}
@@ -198,6 +198,15 @@ module _ (q t : List ℕ) where
     pub table-taken : (n : ℕ) → r ≡ table-reading.Good n → {x : Checked} → x ≡ checkCall q t (callText q (textVerdict q)) → x ≡ check.check q t
     unfolding check.check callOf
     table-taken n e h = h ∙ sym (ap (λ (x : TableReading). checkCall q t (callUnder q x)) (sym er ∙ e))
+
+-- a query is accepted under a table free of 2 and 3 only
+pub accepted-free : (q t : List ℕ) → check.check q t ≡ Accepted → FreeOfFaults t
+unfolding check.check callOf
+accepted-free q t e = go (tableReading t) e
+  where
+    go : (r : TableReading) → checkCall q t (callUnder q r) ≡ Accepted → IsGood r
+    go (table-reading.Good n) h = tt
+    go (table-reading.Fault c p) h = let z : _≡_ {A = ℕ} 0 1 = cc in absurd (omega arith)
 
 -- ---- evaluation
 pub accepts : (q t : List ℕ) {v : Checked} → v ≡ check.check q t → v ≡ Accepted → check.check q t ≡ Accepted

@@ -1,6 +1,7 @@
 // The program: it reads the files `table`, `query` and `run` of the folder that it is started in, and writes a line for each instance of the run, or the one line of a
 // refused call. What it writes is `report`'s output; here is only the reading and the writing.
 use libc::STDOUT_FILENO;
+use report::output::OUTPUT_LIMIT;
 use report::output::write_output;
 ghost use Rattle.io.specs.Counts.{Counts};
 
@@ -42,9 +43,8 @@ fn print_output<'a>(out: &mut [u8], query: &'a [u8], table: &'a [u8], run: &'a [
     io::write_all(STDOUT_FILENO, &out[..n]);
 }
 
-// The buffer has room for every output (report/specs/Output, `outputLimit`). It comes as an array, whose length is its type's: as a slice of zeros it would be counted
-// byte by byte in the proof of its length.
-fn print_whole<'a>(out: &mut [u8; 835584], query: &'a [u8], table: &'a [u8], run: &'a [u8]) {
+// The buffer has room for every output. It comes as an array, whose length is its type's: as a slice of zeros it would be counted byte by byte in the proof of its length.
+fn print_whole<'a>(out: &mut [u8; OUTPUT_LIMIT], query: &'a [u8], table: &'a [u8], run: &'a [u8]) {
     print_output(out, query, table, run);
 }
 
@@ -56,6 +56,6 @@ fn main() {
     let q = read_file(b"query", &mut query);
     let mut run = [0u8; 65537];
     let r = read_file(b"run", &mut run);
-    let mut out = [0u8; 835584];
+    let mut out = [0u8; OUTPUT_LIMIT];
     print_whole(&mut out, &query[..q], &table[..t], &run[..r]);
 }

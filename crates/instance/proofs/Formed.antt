@@ -103,7 +103,8 @@ range-signed s h = go (leb (unsigned s) ((256 ^ length s - 1) / 2)) refl
         let u = unsigned-below s h in
         rw (← signed-high s (256 ^ length s - 1) refl ones l u) (omega (arith, positive (length s)))
 
-range : (g : Bool) (w : ℕ) (s : List ℕ) → w ≤ 8 → Bytes s → length s ≡ w → InRange g w (wholeIn g s)
+-- what a body of `w` bytes holds is a number of that width
+pub range : (g : Bool) (w : ℕ) (s : List ℕ) → w ≤ 8 → Bytes s → length s ≡ w → InRange g w (wholeIn g s)
 range false w s z h e = let q = take-all 8 s (omega arith) in rw (← e, q) (unsigned-below s h)
 range true w s z h e = let q = take-all 8 s (omega arith) in rw (← e, q) (range-signed s h)
 

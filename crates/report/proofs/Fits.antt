@@ -1,10 +1,10 @@
--- A buffer of `outputLimit` bytes holds every output.
+-- A buffer of OUTPUT_LIMIT bytes (`src/output.rt`) holds every output.
 use Prim.Native.Nat.{ℕ, zero, suc, _+_, _-_, _*_, _≤_, _<_}
-use mathlib.Core.List.{List, [], _∷_, map}
+use mathlib.Core.List.{List, [], _∷_, _++_, map}
 use mathlib.Core.Bool.{Bool, true, false}
 use mathlib.Core.Path.{_≡_, refl, sym, _∙_}
 use native.Mathlib.Omega.{arith}
-use lib.ListN.{length, length-append}
+use lib.ListN.{length, length-append, length-map}
 use lib.Dec.{ltb, eqb}
 use borrow.Author.Tests.{ltb-false}
 use Rattle.base.specs.Pick.{pick}
@@ -22,11 +22,16 @@ use Rattle.filter.specs.declared.refusal.Checked.the-variants as checked
 use Rattle.filter.specs.declared.refusal.Answer.{Answer}
 use Rattle.filter.specs.declared.refusal.Answer.the-variants.{Included, Excluded, Refused}
 use Rattle.run.specs.Run.{readingFrom, runReading, bodiesOf, instancesOf}
+use Rattle.run.specs.Totals.{answersOf, totalsOf}
+use Rattle.run.specs.declared.totals.Totals.{Totals}
 use Rattle.run.specs.declared.reading.RunReading.{RunReading}
 use Rattle.run.specs.declared.reading.RunReading.the-variants.{Divides, Breaks}
+use Rattle.run.proofs.Counting.{sum}
+use Rattle.run.proofs.Corollaries.{totals-sum}
 use Rattle.text_writer.proofs.Digits.{decimal-short}
-use Rattle.report.specs.Line.{wordOf, valueOf, ending, line, answerLine, refusedLine, answerLines}
-use Rattle.report.specs.Output.{indivisible, runLimit, outputRead, runOutput, output, outputLimit}
+use Rattle.report.specs.Line.{wordOf, valueOf, spaced, line, answerLine, refusedLine, spacedTotals, totalLine, answerLines, runLines}
+use Rattle.report.specs.Text.{ended, text}
+use Rattle.report.specs.Output.{indivisible, runLimit, linesRead, linesAccepted, outputLines, output}
 use Rattle.report.proofs.Values.{number-small, value-small}
 
 -- what `usize` holds
@@ -34,36 +39,48 @@ abbrev pub Held : ℕ → Type 0
 Held n = n ≤ 0xffffffffffffffff
 
 -- ---- a line
-ending-short : (n : ℕ) → Held n → length (ending n) ≤ 22
-unfolding ending
-ending-short n h = simp length-append (omega (arith, decimal-short n h))
+spaced-short : (n : ℕ) → Held n → length (spaced n) ≤ 21
+unfolding spaced
+spaced-short n h = simp length-append (omega (arith, decimal-short n h))
 
-line-short : (number n : ℕ) (word : List ℕ) → Held number → Held n → length word ≤ 8 → length (line number word n) ≤ 51
+line-short : (number n : ℕ) (word : List ℕ) → Held number → Held n → length word ≤ 8 → length (line number word n) ≤ 50
 unfolding line
-line-short number n word h k l = simp length-append (omega (arith, decimal-short number h, ending-short n k))
+line-short number n word h k l = simp length-append (omega (arith, decimal-short number h, spaced-short n k))
 
 word-short : (a : Answer) → length (wordOf a) ≤ 8
 word-short (Included n) = omega arith
 word-short (Excluded n) = omega arith
 word-short (Refused r) = omega arith
 
-answer-short : (number : ℕ) (a : Answer) → Held number → Held (valueOf a) → length (answerLine number a) ≤ 51
+answer-short : (number : ℕ) (a : Answer) → Held number → Held (valueOf a) → length (answerLine number a) ≤ 50
 answer-short number a h k = line-short number (valueOf a) (wordOf a) h k (word-short a)
 
-refused-short : (number place : ℕ) → Held number → Held place → length (refusedLine number place) ≤ 50
-unfolding refusedLine
-refused-short number place h k = simp length-append (omega (arith, decimal-short number h, ending-short place k))
+refused-short : (number place : ℕ) → Held number → Held place → length (text (refusedLine number place ∷ [])) ≤ 50
+unfolding refusedLine ended text
+refused-short number place h k = simp length-append (omega (arith, spaced-short number h, spaced-short place k))
 
--- ---- a line for each instance
-module _ (q t : List ℕ) (accepted : check q t ≡ checked.Accepted) where
-  lines-short : (number : ℕ) (l : List (List ℕ)) → Held (number + length l) → length (answerLines number (map (evaluate q t) l)) ≤ 51 * length l
-  unfolding answerLines
-  lines-short number [] h = omega arith
+total-short : (n : ℕ) (x : Totals) → Held n → sum x ≡ n → length (totalLine n x) ≤ 89
+unfolding spacedTotals totalLine
+total-short n x h e =
+    simp length-append
+    (omega (
+      arith,
+      spaced-short n h,
+      spaced-short (x .included) (omega arith),
+      spaced-short (x .excluded) (omega arith),
+      spaced-short (x .failed) (omega arith),
+    ))
+
+-- ---- a line for each instance, and the last
+module _ (q t : List ℕ) (accepted : check q t ≡ checked.Accepted) (last : List ℕ) where
+  lines-short : (number : ℕ) (l : List (List ℕ)) → Held (number + length l) → length (text (answerLines number (map (evaluate q t) l) ++ (last ∷ []))) ≤ 51 * length l + length last + 1
+  unfolding answerLines ended text
+  lines-short number [] h = simp length-append (omega arith)
   lines-short number (i ∷ l) h =
       let v = value-small q t i accepted in
       let a = answer-short number (evaluate q t i) (omega arith) (omega arith) in
       let r = lines-short (number + 1) l (omega arith) in
-      rw (length-append (answerLine number (evaluate q t i)) (answerLines (number + 1) (map (evaluate q t) l))) (omega arith)
+      simp length-append (omega arith)
 
 -- ---- the records of a run: each has four bytes and more, and starts inside it
 module _ (s : List ℕ) where
@@ -107,27 +124,37 @@ module _ (s : List ℕ) where
   reading-starts = records-all .starts 0
 
 -- ---- the output
+-- 16,384 lines of 51 bytes, and one of 90
+abbrev Fits : List ℕ → Type 0
+Fits s = length s ≤ 835674
+
 module _ (q t s : List ℕ) where
   module _ (accepted : check q t ≡ checked.Accepted) where
-    read-fits : length s ≤ runLimit → (r : RunReading) → Starts s r → length (outputRead q t s r) ≤ outputLimit
-    read-fits h (Breaks p) k = omega (arith, refused-short indivisible p (omega arith) (omega arith))
-    read-fits h (Divides n) k =
+    run-lines-fit : length s ≤ runLimit → Fits (text (runLines (answersOf q t s)))
+    run-lines-fit h =
         let f = instances-few s in
-        omega (arith, lines-short q t accepted 1 (instancesOf s) (omega arith))
+        let n : length (answersOf q t s) ≡ length (instancesOf s) = length-map (instancesOf s) (evaluate q t) in
+        let x = totalsOf (answersOf q t s) in
+        let l = total-short (length (answersOf q t s)) x (omega arith) (totals-sum q t s ∙ sym n) in
+        omega (arith, lines-short q t accepted (totalLine (length (answersOf q t s)) x) 1 (instancesOf s) (omega arith))
 
-    run-by : (b : Bool) → ltb runLimit (length s) ≡ b → length (pick b (refusedLine indivisible runLimit) (outputRead q t s (runReading s))) ≤ outputLimit
+    read-fits : length s ≤ runLimit → (r : RunReading) → Starts s r → Fits (text (linesRead q t s r))
+    read-fits h (Breaks p) k = omega (arith, refused-short indivisible p (omega arith) (omega arith))
+    read-fits h (Divides n) k = run-lines-fit h
+
+    run-by : (b : Bool) → ltb runLimit (length s) ≡ b → Fits (text (pick b (refusedLine indivisible runLimit ∷ []) (linesRead q t s (runReading s))))
     run-by true e = omega (arith, refused-short indivisible runLimit (omega arith) (omega arith))
     run-by false e = read-fits (ltb-false _ _ e) (runReading s) (reading-starts s)
 
-    run-fits : length (runOutput q t s) ≤ outputLimit
+    run-fits : Fits (text (linesAccepted q t s))
     run-fits = run-by (ltb runLimit (length s)) refl
 
   module _ {v : Checked} (e : v ≡ check q t) where
-    pub accepted-fits : v ≡ checked.Accepted → length (output q t s) ≤ outputLimit
-    unfolding output
+    pub accepted-fits : v ≡ checked.Accepted → Fits (output q t s)
+    unfolding outputLines
     accepted-fits f = rw (← e, f) (run-fits (sym e ∙ f))
 
     -- the code's place is a `usize`
-    pub refused-fits : {x : Refusal} → v ≡ checked.Refused x → Held (x .place) → length (output q t s) ≤ outputLimit
-    unfolding output
-    refused-fits {x} f h = rw (← e, f) (omega (arith, refused-short (numberOf (x .cause)) (x .place) (omega (arith, number-small (x .cause))) h))
+    pub refused-fits : {x : Refusal} → v ≡ checked.Refused x → Held (x .place) → {room : ℕ} → 50 ≤ room → length (output q t s) ≤ room
+    unfolding outputLines
+    refused-fits {x} f h k = rw (← e, f) (omega (arith, refused-short (numberOf (x .cause)) (x .place) (omega (arith, number-small (x .cause))) h))

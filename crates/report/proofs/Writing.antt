@@ -1,16 +1,15 @@
 -- One law for each exit of `src/output.rt`.
 use Prim.Native.Nat.{ℕ, _+_, _≤_, _<_}
-use mathlib.Core.List.{List, [], map}
-use mathlib.Core.Path.{_≡_, refl, sym, _∙_}
+use mathlib.Core.List.{List, [], _∷_, _++_, map}
+use mathlib.Core.Path.{_≡_, refl, sym, ap, _∙_}
 use native.Mathlib.Omega.{arith}
-use lib.ListN.{length}
+use lib.ListN.{length, length-map}
 use borrow.Author.Tests.{lt-ltb, le-ltb}
 use Rattle.base.specs.Part.{part}
 use Rattle.record.specs.Record.{recordAt, records}
 use Rattle.record.specs.declared.read.RecordAt.{RecordAt}
 use Rattle.record.specs.declared.read.RecordAt.the-variants.{Whole, Broken, End}
 use Rattle.record.proofs.Records.{records-whole, records-broken, records-end}
-use Rattle.record.proofs.Reach.{step-in}
 use Rattle.filter.specs.Refusal.{numberOf}
 use Rattle.filter.specs.Check.{check}
 use Rattle.filter.specs.Evaluate.{evaluate}
@@ -19,80 +18,117 @@ use Rattle.filter.specs.declared.refusal.Checked.{Checked}
 use Rattle.filter.specs.declared.refusal.Checked.the-variants.{Accepted, Refused}
 use Rattle.filter.specs.declared.refusal.Answer.{Answer}
 use Rattle.run.specs.Run.{runReading, bodiesOf, instancesOf}
-use Rattle.run.specs.Totals.{answersOf}
+use Rattle.run.specs.Totals.{answersOf, totalsOf, counted}
+use Rattle.run.specs.declared.totals.Totals.{Totals}
 use Rattle.run.specs.declared.reading.RunReading.{RunReading}
 use Rattle.run.specs.declared.reading.RunReading.the-variants.{Divides, Breaks}
+use Rattle.run.proofs.Counting.{totals, sum, plus, plus-next, plus-none, none-plus, sum-next}
 use Rattle.text_writer.specs.Written.{Written}
 use Rattle.text_writer.proofs.Written.{written-none, written-then, written-length}
-use Rattle.report.specs.Line.{answerLine, refusedLine, answerLines}
-use Rattle.report.specs.Output.{indivisible, runLimit, runOutput, output}
+use Rattle.report.specs.Line.{answerLine, refusedLine, totalLine, answerLines, runLines}
+use Rattle.report.specs.Text.{ended, text}
+use Rattle.report.specs.Output.{indivisible, runLimit, linesAccepted, outputLines, output}
+use Rattle.report.proofs.Fits.{instances-few}
 
--- the lines from a record of the run on
-abbrev linesAt : (query table run : List ℕ) (number at : ℕ) → List ℕ
-linesAt q t s number at = answerLines number (map (evaluate q t) (bodiesOf s (records s at)))
+-- a line that stands alone
+pub text-one : {b c : List ℕ} {at n : ℕ} (l : List ℕ) → Written b at (ended l) n c → Written b at (text (l ∷ [])) n c
+unfolding text
+text-one l w = written-then w written-none
 
--- the lines before the record at `at` are written, up to `place`
-pub record Writing (q t s first out : List ℕ) (place number at : ℕ) : Type 0 where
-  -- whoever writes the rest has written all
-  pub completes : (next : ℕ) (after : List ℕ) → Written out place (linesAt q t s number at) next after → Written first 0 (answerLines 1 (answersOf q t s)) next after
-  pub few : number ≤ at + 1
-  pub same : length out ≡ length first
+-- ---- the answers of all instances, `all`, and of those that are left, `rest`
+module _ (all : List Answer) where
+  abbrev linesAfter : (number : ℕ) (rest : List Answer) → List (List ℕ)
+  linesAfter number rest = answerLines number rest ++ (totalLine (length all) (totalsOf all) ∷ [])
 
-pub writing-begins : (q t s out : List ℕ) → Writing q t s out out 0 1 0
-unfolding instancesOf
-writing-begins q t s out = record { completes = λ next after w. w; few = omega arith; same = refl }
+  -- `count` answers are written, up to `place`, and counted
+  pub record Writing (first out : List ℕ) (place count : ℕ) (x : Totals) (rest : List Answer) : Type 0 where
+    -- whoever writes the rest has written all
+    pub completes : (next : ℕ) (after : List ℕ) → Written out place (text (linesAfter (count + 1) rest)) next after → Written first 0 (text (runLines all)) next after
+    pub counts : totalsOf all ≡ plus x (totalsOf rest)
+    pub sums : sum x ≡ count
+    pub left : length all ≡ count + length rest
+    pub same : length out ≡ length first
 
-module _ (q t s first out : List ℕ) (place number at : ℕ) (w : Writing q t s first out place number at) where
-  pub writing-same : length out ≡ length first
-  writing-same = w .same
+  begin : (out : List ℕ) → Writing out out 0 0 (totals 0 0 0) all
+  begin out = record { completes = λ next after w. w; counts = none-plus (totalsOf all); sums = refl; left = omega arith; same = refl }
 
-  none-left : linesAt q t s number at ≡ [] → Written first 0 (answerLines 1 (answersOf q t s)) place out
-  none-left e = w .completes place out (rw e written-none)
+  next-one : {first out : List ℕ} {place count : ℕ} {x : Totals} {rest : List Answer} (a : Answer) → Writing first out place count x (a ∷ rest)
+      → {next : ℕ} {after : List ℕ} → Written out place (ended (answerLine (count + 1) a)) next after → Writing first after next (count + 1) (counted x a) rest
+  unfolding answerLines text
+  next-one {first} {out} {place} {count} {x} {rest} a w v =
+      record {
+        completes = λ n after u. w .completes n after (written-then v u);
+        counts = w .counts ∙ plus-next x a rest;
+        sums = omega (arith, w .sums, sum-next x a);
+        left = omega (arith, w .left);
+        same = written-length v ∙ w .same;
+      }
 
-  module _ {r : RecordAt} (e : r ≡ recordAt s at) where
-    pub writing-broken : r ≡ Broken → Written first 0 (answerLines 1 (answersOf q t s)) place out
-    unfolding bodiesOf answerLines
-    writing-broken f = none-left (rw (records-broken s at (sym e ∙ f)) refl)
+  finish : {first out : List ℕ} {place count : ℕ} {x : Totals} → Writing first out place count x []
+      → {next : ℕ} {after : List ℕ} → Written out place (ended (totalLine count x)) next after → Written first 0 (text (runLines all)) next after
+  unfolding answerLines
+  finish {first} {out} {place} {count} {x} w {next} {after} v =
+      let n : length all ≡ count = omega (arith, w .left) in
+      w .completes next after (rw (n, w .counts ∙ plus-none x) (text-one (totalLine count x) v))
 
-    pub writing-end : r ≡ End → Written first 0 (answerLines 1 (answersOf q t s)) place out
-    unfolding bodiesOf answerLines
-    writing-end f = none-left (rw (records-end s at (sym e ∙ f)) refl)
+-- ---- as the code meets them
+module _ (q t s : List ℕ) where
+  abbrev pub answersAt : (at : ℕ) → List Answer
+  answersAt at = map (evaluate q t) (bodiesOf s (records s at))
 
-    module _ {kind start len next : ℕ} (f : r ≡ Whole kind start len next) where
-      pub writing-room : number < length s
-      writing-room = let i = step-in s at e f in omega (arith, w .few)
+  pub writing-begins : (out : List ℕ) → Writing (answersOf q t s) out out 0 0 (totals 0 0 0) (answersAt 0)
+  unfolding instancesOf
+  writing-begins out = begin (answersOf q t s) out
 
-      pub writing-next : {i : List ℕ} → i ≡ part s start len → {a : Answer} → a ≡ evaluate q t i → {p : ℕ} {d : List ℕ} → Written out place (answerLine number a) p d
-          → Writing q t s first d p (number + 1) next
-      unfolding bodiesOf answerLines
-      writing-next {i} g {a} h {p} {d} v =
-          let k = step-in s at e f in
-          record {
-            completes = λ n after u. w .completes n after (rw (records-whole s at kind start len next (sym e ∙ f), ← g, ← h) (written-then v u));
-            few = omega (arith, w .few);
-            same = written-length v ∙ w .same;
-          }
+  module _ (first out : List ℕ) (place count at : ℕ) (x : Totals) (w : Writing (answersOf q t s) first out place count x (answersAt at)) where
+    pub writing-same : {next : ℕ} {after l : List ℕ} → Written out place l next after → length after ≡ length first
+    writing-same v = written-length v ∙ w .same
+
+    module _ {r : RecordAt} (e : r ≡ recordAt s at) where
+      module _ {next : ℕ} {after : List ℕ} (v : Written out place (ended (totalLine count x)) next after) where
+        pub writing-broken : r ≡ Broken → Written first 0 (text (runLines (answersOf q t s))) next after
+        unfolding bodiesOf
+        writing-broken f = finish (answersOf q t s) (rw (records-broken s at (sym e ∙ f)) at w) v
+
+        pub writing-end : r ≡ End → Written first 0 (text (runLines (answersOf q t s))) next after
+        unfolding bodiesOf
+        writing-end f = finish (answersOf q t s) (rw (records-end s at (sym e ∙ f)) at w) v
+
+      module _ {kind start len next : ℕ} (f : r ≡ Whole kind start len next) where
+        rest : answersAt at ≡ evaluate q t (part s start len) ∷ answersAt next
+        unfolding bodiesOf
+        rest = rw (records-whole s at kind start len next (sym e ∙ f)) refl
+
+        pub writing-room : count < length s
+        writing-room = omega (arith, w .left, ap length rest, length-map (instancesOf s) (evaluate q t), instances-few s)
+
+        pub writing-few : sum x < length s
+        writing-few = omega (arith, w .sums, writing-room)
+
+        pub writing-next : {i : List ℕ} → i ≡ part s start len → {a : Answer} → a ≡ evaluate q t i → {p : ℕ} {d : List ℕ} → Written out place (ended (answerLine (count + 1) a)) p d
+            → {y : Totals} → y ≡ counted x a → Writing (answersOf q t s) first d p (count + 1) y (answersAt next)
+        writing-next g h v ey = let k = h ∙ ap (evaluate q t) g in rw (ey, k) (next-one (answersOf q t s) (evaluate q t (part s start len)) (rw rest at w) (rw k at v))
 
 -- ---- which of them is written
-pub indivisible-written : (p : ℕ) {b c : List ℕ} {n k : ℕ} → k ≡ indivisible → Written b 0 (refusedLine k p) n c → Written b 0 (refusedLine indivisible p) n c
+pub indivisible-written : (p : ℕ) {b c : List ℕ} {n k : ℕ} → k ≡ indivisible → Written b 0 (ended (refusedLine k p)) n c → Written b 0 (ended (refusedLine indivisible p)) n c
 indivisible-written p e w = rw (← e) w
 
 module _ (q t s : List ℕ) {b c : List ℕ} {n : ℕ} where
-  pub long-written : runLimit < length s → Written b 0 (refusedLine indivisible runLimit) n c → Written b 0 (runOutput q t s) n c
-  long-written h w = rw (lt-ltb _ _ h) w
+  pub long-written : runLimit < length s → Written b 0 (ended (refusedLine indivisible runLimit)) n c → Written b 0 (text (linesAccepted q t s)) n c
+  long-written h w = rw (lt-ltb _ _ h) (text-one (refusedLine indivisible runLimit) w)
 
   module _ (h : length s ≤ runLimit) {r : RunReading} (e : r ≡ runReading s) where
-    pub broken-written : {p : ℕ} → r ≡ Breaks p → Written b 0 (refusedLine indivisible p) n c → Written b 0 (runOutput q t s) n c
-    broken-written f w = rw (le-ltb _ _ h, ← e, f) w
+    pub broken-written : {p : ℕ} → r ≡ Breaks p → Written b 0 (ended (refusedLine indivisible p)) n c → Written b 0 (text (linesAccepted q t s)) n c
+    broken-written {p} f w = rw (le-ltb _ _ h, ← e, f) (text-one (refusedLine indivisible p) w)
 
-    pub answers-written : {k : ℕ} → r ≡ Divides k → Written b 0 (answerLines 1 (answersOf q t s)) n c → Written b 0 (runOutput q t s) n c
+    pub answers-written : {k : ℕ} → r ≡ Divides k → Written b 0 (text (runLines (answersOf q t s))) n c → Written b 0 (text (linesAccepted q t s)) n c
     answers-written f w = rw (le-ltb _ _ h, ← e, f) w
 
   module _ {v : Checked} (e : v ≡ check q t) where
-    pub refused-written : {x : Refusal} → v ≡ Refused x → {k : ℕ} → k ≡ numberOf (x .cause) → Written b 0 (refusedLine k (x .place)) n c → Written b 0 (output q t s) n c
-    unfolding output
-    refused-written f g w = rw (← e, f, ← g) w
+    pub refused-written : {x : Refusal} → v ≡ Refused x → {k : ℕ} → k ≡ numberOf (x .cause) → Written b 0 (ended (refusedLine k (x .place))) n c → Written b 0 (output q t s) n c
+    unfolding outputLines
+    refused-written {x} f {k} g w = rw (← e, f, ← g) (text-one (refusedLine k (x .place)) w)
 
-    pub accepted-written : v ≡ Accepted → Written b 0 (runOutput q t s) n c → Written b 0 (output q t s) n c
-    unfolding output
+    pub accepted-written : v ≡ Accepted → Written b 0 (text (linesAccepted q t s)) n c → Written b 0 (output q t s) n c
+    unfolding outputLines
     accepted-written f w = rw (← e, f) w

@@ -1,13 +1,15 @@
--- 01 "A fan to try": "Per instance: its number from 1, the word, then steps, or the refusal number after `failed`. A refused call prints one line `refused`, number,
--- place." One blank stands between, and a line feed at the end.
+-- The program's lines, without their line feeds. 01 "A fan to try": "Per instance: its number from 1, the word, then steps, or the refusal number after `failed`. A
+-- refused call prints one line `refused`, number, place." 02 Q-1: "Print one last line: `total`, the instances, the included, the excluded, the failed, each after one
+-- space."
 use Prim.Native.Nat.{ℕ, _+_}
 use mathlib.Core.List.{List, [], _∷_, _++_}
-use lib.Dec.{eqb}
-use Rattle.base.specs.Pick.{pick}
+use lib.ListN.{length}
 use Rattle.base.specs.Ascii.{bytes}
 use Rattle.filter.specs.Refusal.{numberOf}
 use Rattle.filter.specs.declared.refusal.Answer.{Answer}
 use Rattle.filter.specs.declared.refusal.Answer.the-variants.{Included, Excluded, Refused}
+use Rattle.run.specs.Totals.{totalsOf}
+use Rattle.run.specs.declared.totals.Totals.{Totals}
 use Rattle.text_writer.specs.Decimal.{decimal}
 
 abbrev pub wordOf : Answer → List ℕ
@@ -21,28 +23,30 @@ valueOf (Included n) = n
 valueOf (Excluded n) = n
 valueOf (Refused r) = numberOf (r .cause)
 
-abbrev pub lineFeed : ℕ
-lineFeed = 10
-
--- a blank, the last number, the line feed
-unfoldable pub ending : ℕ → List ℕ
-ending n = bytes " " ++ decimal n ++ (lineFeed ∷ [])
+-- a number after one blank
+unfoldable pub spaced : (number : ℕ) → List ℕ
+spaced n = bytes " " ++ decimal n
 
 unfoldable pub line : (number : ℕ) (word : List ℕ) (value : ℕ) → List ℕ
-line number word n = decimal number ++ bytes " " ++ word ++ ending n
+line number word n = decimal number ++ bytes " " ++ word ++ spaced n
 
 abbrev pub answerLine : (number : ℕ) → Answer → List ℕ
 answerLine number a = line number (wordOf a) (valueOf a)
 
 unfoldable pub refusedLine : (number place : ℕ) → List ℕ
-refusedLine number place = bytes "refused " ++ decimal number ++ ending place
+refusedLine number place = bytes "refused" ++ spaced number ++ spaced place
+
+unfoldable pub spacedTotals : Totals → List ℕ
+spacedTotals x = spaced (x .included) ++ spaced (x .excluded) ++ spaced (x .failed)
+
+unfoldable pub totalLine : (instances : ℕ) → Totals → List ℕ
+totalLine n x = bytes "total" ++ spaced n ++ spacedTotals x
 
 -- a line for each answer, numbered from `number` on
-unfoldable pub answerLines : (number : ℕ) → List Answer → List ℕ
+unfoldable pub answerLines : (number : ℕ) → List Answer → List (List ℕ)
 answerLines number [] = []
-answerLines number (a ∷ rest) = answerLine number a ++ answerLines (number + 1) rest
+answerLines number (a ∷ rest) = answerLine number a ∷ answerLines (number + 1) rest
 
--- how many lines a text has
-unfoldable pub lineCount : List ℕ → ℕ
-lineCount [] = 0
-lineCount (b ∷ s) = pick (eqb b lineFeed) 1 0 + lineCount s
+-- of a run: a line for each answer, and the totals
+abbrev pub runLines : List Answer → List (List ℕ)
+runLines answers = answerLines 1 answers ++ (totalLine (length answers) (totalsOf answers) ∷ [])

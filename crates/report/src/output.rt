@@ -1,6 +1,7 @@
 // The whole of what the program writes.
 use crate::line::write_answer;
 use crate::line::write_refused;
+use crate::line::write_total;
 use base::bytes::piece;
 use filter::check::check;
 use filter::evaluate::evaluate_accepted;
@@ -11,23 +12,34 @@ use record::read::record_at;
 use run::fault::RunFault;
 use run::reading::RunReading;
 use run::reading::read_run;
+use run::totals::Totals;
+use run::totals::count_answer;
 ghost use mathlib.Core.Path.{_≡_};
 ghost use Prim.Native.Nat.{_≤_};
 ghost use lib.ListN.{length};
 ghost use Rattle.filter.specs.Check as Check;
 ghost use Rattle.run.specs.Totals.{answersOf};
 ghost use Rattle.text_writer.specs.Written.{Written};
-ghost use Rattle.report.specs.Line.{answerLines, refusedLine};
-ghost use Rattle.report.specs.Output.{indivisible, runOutput, output, outputLimit};
+ghost use Rattle.report.specs.Line.{refusedLine, runLines};
+ghost use Rattle.report.specs.Text.{ended, text};
+ghost use Rattle.report.specs.Output.{indivisible, linesAccepted, output};
 
-// A line for each instance of the run, numbered from 1.
+// A run within its limit has at most 16,384 records; a line has at most 51 bytes, the last one 90.
+pub const OUTPUT_LIMIT: usize = 835_674;
+
+// A line for each instance of the run, numbered from 1, and the totals.
 fn write_answers<'a>(out: &mut [u8], query: &'a [u8], table: &'a [u8], run: &'a [u8]) -> usize
     requires { ⌜ Check.check (now query) (now table) ≡ Checked.Accepted ⌝ }
-    ensures { λ r. ⌜ Written (now (out .entry)) 0 (answerLines 1 (answersOf (now (query .entry)) (now (table .entry)) (now (run .entry)))) r (now (out .exit)) ⌝ }
+    ensures { λ r. ⌜ Written (now (out .entry)) 0 (text (runLines (answersOf (now (query .entry)) (now (table .entry)) (now (run .entry))))) r (now (out .exit)) ⌝ }
 {
     let mut place = 0;
     let mut at = 0;
-    let mut number: usize = 1;
+    let mut count: usize = 0;
+    let mut totals = Totals {
+        included: 0,
+        excluded: 0,
+        failed: 0,
+    };
     loop {
         match record_at(run, at) {
             RecordAt::Whole {
@@ -37,18 +49,19 @@ fn write_answers<'a>(out: &mut [u8], query: &'a [u8], table: &'a [u8], run: &'a 
                 next,
             } => {
                 let answer = evaluate_accepted(query, table, piece(run, start, length));
-                place = write_answer(out, place, number, answer);
-                number += 1;
+                count += 1;
+                place = write_answer(out, place, count, answer);
+                totals = count_answer(totals, answer);
                 at = next;
             }
-            RecordAt::Broken => return place,
-            RecordAt::End => return place,
+            RecordAt::Broken => return write_total(out, place, count, totals),
+            RecordAt::End => return write_total(out, place, count, totals),
         }
     }
 }
 
 fn write_indivisible(out: &mut [u8], place: usize) -> usize
-    ensures { λ r. ⌜ Written (now (out .entry)) 0 (refusedLine indivisible place) r (now (out .exit)) ⌝ }
+    ensures { λ r. ⌜ Written (now (out .entry)) 0 (ended (refusedLine indivisible place)) r (now (out .exit)) ⌝ }
 {
     write_refused(out, 0, run::fault::number_of(RunFault::Indivisible), place)
 }
@@ -56,7 +69,7 @@ fn write_indivisible(out: &mut [u8], place: usize) -> usize
 // Of a query that the check accepts; the run's length before its records.
 fn write_run<'a>(out: &mut [u8], query: &'a [u8], table: &'a [u8], run: &'a [u8]) -> usize
     requires { ⌜ Check.check (now query) (now table) ≡ Checked.Accepted ⌝ }
-    ensures { λ r. ⌜ Written (now (out .entry)) 0 (runOutput (now (query .entry)) (now (table .entry)) (now (run .entry))) r (now (out .exit)) ⌝ }
+    ensures { λ r. ⌜ Written (now (out .entry)) 0 (text (linesAccepted (now (query .entry)) (now (table .entry)) (now (run .entry)))) r (now (out .exit)) ⌝ }
 {
     if 65536 < run.len() {
         return write_indivisible(out, 65536);
@@ -67,9 +80,10 @@ fn write_run<'a>(out: &mut [u8], query: &'a [u8], table: &'a [u8], run: &'a [u8]
     }
 }
 
-// What the program writes for these three files, and how many bytes it is. A buffer of 835,584 bytes holds all of it.
+// What the program writes for these three files, and how many bytes it is.
 pub fn write_output<'a>(out: &mut [u8], query: &'a [u8], table: &'a [u8], run: &'a [u8]) -> usize
-    ensures { λ r. ⌜ Written (now (out .entry)) 0 (output (now (query .entry)) (now (table .entry)) (now (run .entry))) r (now (out .exit)) × (length (output (now (query .entry)) (now (table .entry)) (now (run .entry))) ≤ outputLimit) ⌝ }
+    ensures written { λ r. ⌜ Written (now (out .entry)) 0 (output (now (query .entry)) (now (table .entry)) (now (run .entry))) r (now (out .exit)) ⌝ }
+    ensures fits { λ r. do ⌜ length (output (now (query .entry)) (now (table .entry)) (now (run .entry))) ≤ (← ⟦OUTPUT_LIMIT⟧ .entry) ⌝ }
 {
     match check(query, table) {
         Checked::Refused(x) => {

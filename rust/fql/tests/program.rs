@@ -10,6 +10,7 @@ use reference::cases::call;
 use reference::cases::run::random;
 use reference::examples::programs;
 use reference::examples::setting::sample;
+use reference::mark::instances;
 use reference::program::{output, Files};
 use reference::random::{for_each_seed, Random};
 
@@ -59,6 +60,18 @@ fn of_the_examples() {
     }
 }
 
+/// A record has at least four bytes, so no run within the limit has more lines.
+#[test]
+fn of_a_run_with_the_most_records() {
+    let folder = folder("most");
+    let files = |records: usize| Files { run: [0, 0, 0, 3].repeat(records), ..sample_files() };
+    let lines: String = (1..=16_384).map(|number| format!("{number} failed 31\n")).collect();
+    write(&folder, &files(16_384));
+    assert_eq!(run(&folder), lines + "total 16384 0 0 16384\n");
+    write(&folder, &files(16_385));
+    assert_eq!(run(&folder), "refused 40 65536\n");
+}
+
 /// With the files named here made unreadable in some way, the rest as in the sample.
 fn with(name: &str, unreadable: &[&str], make: impl Fn(&Path)) -> String {
     let folder = folder(name);
@@ -73,8 +86,8 @@ fn with(name: &str, unreadable: &[&str], make: impl Fn(&Path)) -> String {
 
 /// A file that can't be read counts as empty.
 const UNREADABLE: [(&[&str], &str); 8] = [
-    (&[], "1 included 1\n2 failed 31\n"),
-    (&["run"], ""),
+    (&[], "1 included 1\n2 failed 31\ntotal 2 1 0 1\n"),
+    (&["run"], "total 0 0 0 0\n"),
     (&["query"], "refused 11 0\n"),
     (&["query", "run"], "refused 11 0\n"),
     (&["table"], "refused 2 0\n"),
@@ -138,22 +151,45 @@ fn of_files_without_permission() {
     fs::remove_dir_all(&folder).unwrap();
 }
 
+/// The printed text by itself, as a person adds it up: one line of a refused call, or totals that are those of the lines
+/// above and of the run's records.
+fn hold_to_totals(printed: &str, run: &[u8]) {
+    let lines: Vec<Vec<&str>> = printed.lines().map(|line| line.split(' ').collect()).collect();
+    if lines[0][0] == "refused" {
+        assert!(lines.len() == 1 && lines[0].len() == 3, "{printed}");
+        return;
+    }
+    let (last, above) = lines.split_last().unwrap();
+    let of = |word: &str| above.iter().filter(|line| line[1] == word).count();
+    let words = [of("included"), of("excluded"), of("failed")];
+    let numbers: Vec<usize> = last[1..].iter().map(|number| number.parse().unwrap()).collect();
+    assert_eq!(last[0], "total", "{printed}");
+    assert_eq!(numbers[1..], words, "{printed}");
+    assert_eq!(numbers[0], words.iter().sum(), "{printed}");
+    assert_eq!(numbers[0], instances(run).unwrap().len(), "{printed}");
+}
+
 fn compare(r: &mut Random) {
     let folder = folder("random");
-    let mut lines = String::new();
+    let mut all = String::new();
+    let mut mixed = 0;
     for _ in 0..400 {
         let case = random(r);
         let files = Files { table: case.table, query: case.query, run: case.run };
         write(&folder, &files);
-        let expected = output(&files);
-        assert_eq!(run(&folder), expected, "{}", call("files", &[&files.table, &files.query, &files.run]));
-        lines += &expected;
+        let printed = run(&folder);
+        assert_eq!(printed, output(&files), "{}", call("files", &[&files.table, &files.query, &files.run]));
+        hold_to_totals(&printed, &files.run);
+        mixed += usize::from(["included", "excluded", "failed"].iter().all(|word| printed.contains(word)));
+        all += &printed;
     }
-    for word in ["included", "excluded", "failed", "refused 2 ", "refused 11 ", "refused 40 "] {
-        let n = lines.matches(word).count();
+    for word in ["included", "excluded", "failed", "refused 2 ", "refused 11 ", "refused 40 ", "total 0 0 0 0"] {
+        let n = all.matches(word).count();
         println!("{n} times {word}");
         assert!(n >= 5, "only {n} times {word}");
     }
+    println!("{mixed} runs with all three words");
+    assert!(mixed >= 5, "only {mixed} runs with all three words");
 }
 
 #[test]

@@ -1,4 +1,4 @@
-//! What the program prints (01, "A fan to try", last part).
+//! What the program prints (01, "A fan to try", last part; 02, Q-1).
 
 use crate::check::check;
 use crate::evaluate::evaluate;
@@ -15,21 +15,30 @@ pub struct Files {
     pub run: Vec<u8>,
 }
 
-fn answered(files: &Files) -> Result<String, Refusal> {
+fn line(number: usize, files: &Files, instance: &[u8]) -> String {
+    match evaluate(&files.query, &files.table, instance) {
+        Ok(answer) if answer.included => format!("{number} included {}", answer.steps),
+        Ok(answer) => format!("{number} excluded {}", answer.steps),
+        Err(refusal) => format!("{number} failed {}", refusal.number),
+    }
+}
+
+/// "Each of the last three equals the number of lines above of that word."
+fn total(lines: &[String]) -> String {
+    let of = |word: &str| lines.iter().filter(|line| line.split(' ').nth(1) == Some(word)).count();
+    format!("total {} {} {} {}", lines.len(), of("included"), of("excluded"), of("failed"))
+}
+
+fn answered(files: &Files) -> Result<Vec<String>, Refusal> {
     check(&files.query, &files.table)?;
     require(files.run.len() <= LENGTH_OF_RUN, 40, LENGTH_OF_RUN)?;
-    let mut out = String::new();
-    for (number, instance) in (1..).zip(instances(&files.run)?) {
-        let line = match evaluate(&files.query, &files.table, instance) {
-            Ok(answer) if answer.included => format!("{number} included {}\n", answer.steps),
-            Ok(answer) => format!("{number} excluded {}\n", answer.steps),
-            Err(refusal) => format!("{number} failed {}\n", refusal.number),
-        };
-        out += &line;
-    }
-    Ok(out)
+    let instances = (1..).zip(instances(&files.run)?);
+    let mut lines: Vec<String> = instances.map(|(number, instance)| line(number, files, instance)).collect();
+    lines.push(total(&lines));
+    Ok(lines)
 }
 
 pub fn output(files: &Files) -> String {
-    answered(files).unwrap_or_else(|refusal| format!("refused {} {}\n", refusal.number, refusal.place))
+    let lines = answered(files).unwrap_or_else(|refusal| vec![format!("refused {} {}", refusal.number, refusal.place)]);
+    lines.iter().flat_map(|line| [line, "\n"]).collect()
 }

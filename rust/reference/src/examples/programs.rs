@@ -1,4 +1,4 @@
-//! Files with what the program prints (01, "A fan to try", last part).
+//! Files with what the program prints (01, "A fan to try", last part; 02, Q-1).
 
 use super::setting::{array, null, sample, text, truth, unsigned};
 use crate::program::Files;
@@ -30,7 +30,13 @@ pub fn sample_run() -> Vec<u8> {
     run(&[sample().instance(), vec![]])
 }
 
-const TEN_LINES: &str = "\
+const OF_THE_SAMPLE: &str = "\
+1 included 1
+2 failed 31
+total 2 1 0 1
+";
+
+const OF_TEN: &str = "\
 1 included 1
 2 included 1
 3 included 1
@@ -41,22 +47,35 @@ const TEN_LINES: &str = "\
 8 included 1
 9 included 1
 10 included 1
+total 10 10 0 0
 ";
 
-/// A line for each instance; a run of none prints nothing.
+const OF_EACH_WORD: &str = "\
+1 failed 31
+2 excluded 1
+3 included 1
+4 failed 31
+5 failed 31
+6 excluded 1
+total 6 1 2 3
+";
+
+/// A line for each instance, and the totals; a run of none has the totals alone.
 fn answered() -> Vec<ProgramExample> {
     let tried = |query: &str, run, expected| tried(sample().table(), query.as_bytes(), run, expected);
+    let on = sample().instance();
     let off = sample().with("On", truth(false)).instance();
     let long = sample().with("Name", text(&"n".repeat(60_000))).instance();
     let many = sample().with("Dev", array(2, &vec![unsigned(9); 256])).instance();
     vec![
-        tried("On = TRUE", sample_run(), "1 included 1\n2 failed 31\n"),
-        tried("Dev = {14,3}", sample_run(), "1 excluded 2\n2 failed 31\n"),
-        tried("On = TRUE", vec![], ""),
-        tried("On = TRUE", run(&[off, sample().instance()]), "1 excluded 1\n2 included 1\n"),
-        tried("Name LIKE 'n*'", run(&[long]), "1 included 60001\n"),
-        tried("ANY Dev = 8 OR ANY Dev = 9", run(&[many]), "1 included 259\n"),
-        tried("On = NULL\n", run(&vec![null().repeat(6); 10]), TEN_LINES),
+        tried("On = TRUE", sample_run(), OF_THE_SAMPLE),
+        tried("Dev = {14,3}", sample_run(), "1 excluded 2\n2 failed 31\ntotal 2 0 1 1\n"),
+        tried("On = TRUE", vec![], "total 0 0 0 0\n"),
+        tried("On = TRUE", run(&[off.clone(), on.clone()]), "1 excluded 1\n2 included 1\ntotal 2 1 1 0\n"),
+        tried("On = TRUE", run(&[vec![], off.clone(), on, vec![0], vec![1, 2, 3], off]), OF_EACH_WORD),
+        tried("Name LIKE 'n*'", run(&[long]), "1 included 60001\ntotal 1 1 0 0\n"),
+        tried("ANY Dev = 8 OR ANY Dev = 9", run(&[many]), "1 included 259\ntotal 1 1 0 0\n"),
+        tried("On = NULL\n", run(&vec![null().repeat(6); 10]), OF_TEN),
     ]
 }
 
@@ -78,7 +97,7 @@ fn refused_queries() -> Vec<ProgramExample> {
     let blanks = |n: usize| format!("On = TRUE{}", " ".repeat(n - 9)).into_bytes();
     let comparisons = vec!["On = TRUE"; 65].join(" OR ");
     vec![
-        tried(&blanks(4_096), "1 included 1\n2 failed 31\n"),
+        tried(&blanks(4_096), OF_THE_SAMPLE),
         tried(&blanks(4_097), "refused 1 0\n"),
         tried(&blanks(70_000), "refused 1 0\n"),
         tried(b"On = TRUE\xff", "refused 10 9\n"),
@@ -104,7 +123,7 @@ fn runs() -> Vec<ProgramExample> {
         [run(&[[sample().instance(), padding].concat()]), run(&[vec![]]), vec![0; more]].concat()
     };
     vec![
-        tried("On = TRUE", longest(0), "1 included 1\n2 failed 31\n"),
+        tried("On = TRUE", longest(0), OF_THE_SAMPLE),
         tried("On = TRUE", longest(1), "refused 40 65536\n"),
         tried("On = TRUE", longest(100_000), "refused 40 65536\n"),
         tried("On = TRUE AND", longest(1), "refused 11 13\n"),

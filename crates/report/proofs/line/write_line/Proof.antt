@@ -12,8 +12,8 @@ write-byte-requires c κs = search needs
 write-text-requires : tie.Need-write-text-requires
 write-text-requires c κs = search needs
 
-write-ending-requires : tie.Need-write-ending-requires
-write-ending-requires c κs = search needs
+write-last-requires : tie.Need-write-last-requires
+write-last-requires c κs = search needs
 
 same-length : tie.Need-same-length
 same-length c = search needs
@@ -28,6 +28,6 @@ write-line-spec =
     write-decimal-requires
     write-byte-requires
     write-text-requires
-    write-ending-requires
+    write-last-requires
     same-length
     returns)

@@ -9,11 +9,11 @@ slice-aggregate-write-text c = search needs
 write-text-requires : tie.Need-write-text-requires
 write-text-requires c κs = search needs
 
-write-decimal-requires : tie.Need-write-decimal-requires
-write-decimal-requires c κs = search needs
+write-spaced-requires : tie.Need-write-spaced-requires
+write-spaced-requires c κs = search needs
 
-write-ending-requires : tie.Need-write-ending-requires
-write-ending-requires c κs = search needs
+write-last-requires : tie.Need-write-last-requires
+write-last-requires c κs = search needs
 
 same-length : tie.Need-same-length
 same-length c = search needs
@@ -27,7 +27,7 @@ write-refused-spec =
     (tie.spec
     slice-aggregate-write-text
     write-text-requires
-    write-decimal-requires
-    write-ending-requires
+    write-spaced-requires
+    write-last-requires
     same-length
     returns)

@@ -3,16 +3,17 @@ use Prim.Native.Nat.{_-_}
 use native.Mathlib.Omega.{arith}
 use lib.ListN.{length}
 use Rattle.record.proofs.Reach as reach
+use Rattle.run.specs.Totals.{answersOf}
 use Rattle.report.proofs.Writing as law
-use Rattle.report.proofs.Writing.{Writing}
+use Rattle.report.proofs.Writing.{Writing, answersAt}
 use Rattle.report.proofs.output.write_answers.Statement.{statement}
 use Rattle.report.proofs.output.write_answers.Tie as tie
 
 abbrev Inv-loop : tie.InvT-loop
-Inv-loop out₀ query table run place₀ at₀ number₀ out place at number = Writing query table run out₀ out place number at
+Inv-loop out₀ query table run place₀ at₀ count₀ totals₀ out place at count totals = Writing (answersOf query table run) out₀ out place count totals (answersAt query table run at)
 
 abbrev μ-loop : tie.MeasureT-loop
-μ-loop out₀ query table run place₀ at₀ number₀ out place at number = length run - at
+μ-loop out₀ query table run place₀ at₀ count₀ totals₀ out place at count totals = length run - at
 
 loop-holds : tie.Need-loop-holds Inv-loop μ-loop
 loop-holds c = search law.writing-begins
@@ -29,11 +30,14 @@ piece-requires c κs = search needs
 evaluate-accepted-requires : tie.Need-evaluate-accepted-requires Inv-loop μ-loop
 evaluate-accepted-requires c κs = search needs
 
+add-count : tie.Need-add-count Inv-loop μ-loop
+add-count c = let m = law.writing-room _ _ _ _ _ _ _ _ _ (c .before .before .before .before .before .before .loop .inv) (c .before .before .before .before .before .record-at .ensures) (c .before .before .before .start .given .1) in omega arith
+
 write-answer-requires : tie.Need-write-answer-requires Inv-loop μ-loop
 write-answer-requires c κs = search needs
 
-add-number : tie.Need-add-number Inv-loop μ-loop
-add-number c = let m = law.writing-room _ _ _ _ _ _ _ _ (c .before .before .before .before .before .before .before .before .before .before .loop .inv) (c .before .before .before .before .before .before .before .before .before .record-at .ensures) (c .before .before .before .before .before .before .before .start .given .1) in omega arith
+count-answer-requires : tie.Need-count-answer-requires Inv-loop μ-loop
+count-answer-requires c κs = let m = law.writing-few _ _ _ _ _ _ _ _ _ (c .before .before .before .before .before .before .before .before .before .before .loop .inv) (c .before .before .before .before .before .before .before .before .before .record-at .ensures) (c .before .before .before .before .before .before .before .start .given .1) in omega arith
 
 loop-less : tie.Need-loop-less Inv-loop μ-loop
 loop-less c = search reach.step-less
@@ -44,6 +48,9 @@ loop-again c = search law.writing-next
 enum-told : tie.Need-enum-told Inv-loop μ-loop
 enum-told c = search needs
 
+write-total-requires : tie.Need-write-total-requires Inv-loop μ-loop
+write-total-requires c κs = search needs
+
 same-length : tie.Need-same-length Inv-loop μ-loop
 same-length c = search law.writing-same
 
@@ -52,6 +59,9 @@ returns c = search law.writing-broken
 
 enum-told-2 : tie.Need-enum-told-2 Inv-loop μ-loop
 enum-told-2 c = search needs
+
+write-total-requires-2 : tie.Need-write-total-requires-2 Inv-loop μ-loop
+write-total-requires-2 c κs = search needs
 
 same-length-2 : tie.Need-same-length-2 Inv-loop μ-loop
 same-length-2 c = search law.writing-same
@@ -70,13 +80,16 @@ write-answers-spec =
     enum-known-start
     piece-requires
     evaluate-accepted-requires
+    add-count
     write-answer-requires
-    add-number
+    count-answer-requires
     loop-less
     loop-again
     enum-told
+    write-total-requires
     same-length
     returns
     enum-told-2
+    write-total-requires-2
     same-length-2
     returns-2)

@@ -1,3 +1,4 @@
+use native.Mathlib.Omega.{arith}
 use Rattle.filter.proofs.Laws as filter
 use Rattle.report.proofs.Fits as fits
 use Rattle.report.proofs.Writing as law
@@ -27,7 +28,7 @@ same-length : tie.Need-same-length
 same-length c = search needs
 
 returns : tie.Need-returns
-returns c = (search law.refused-written, fits.refused-fits _ _ _ (c .before .before .before .before .before .before .before .before .check .ensures) (c .before .before .before .before .before .before .x .given .1) (search needs))
+returns c = (search law.refused-written, fits.refused-fits _ _ _ (c .before .before .before .before .before .before .before .before .check .ensures) (c .before .before .before .before .before .before .x .given .1) (search needs) (omega arith))
 
 same-length-2 : tie.Need-same-length-2
 same-length-2 c = search needs
