@@ -164,7 +164,7 @@ unfolding
     mark-mark.mark mark-mark.marksAfter
     text-writer-decimal.digitsWithin text-writer-decimal.decimal
     report-line.spaced report-line.line report-line.refusedLine report-line.spacedTotals report-line.totalLine report-line.answerLines
-    report-text.ended report-text.text
+    report-text.terminated report-text.text
     report-output.outputLines
 every-one = (refl, refl, refl)
 

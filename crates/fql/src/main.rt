@@ -1,5 +1,5 @@
-// The program: it reads the files `table`, `query` and `run` of the folder that it is started in, and writes a line for each instance of the run, or the one line of a
-// refused call. What it writes is `report`'s output; here is only the reading and the writing.
+// The program: it reads the files `table`, `query` and `run` of the folder that it is started in, and writes a line for each instance of the run and one with the
+// totals, or the one line of a refused call. What it writes is `report`'s output; here is only the reading and the writing.
 use libc::STDOUT_FILENO;
 use report::output::OUTPUT_LIMIT;
 use report::output::write_output;

@@ -98,7 +98,7 @@ module _ (q t s : List ℕ) (accepted : check q t ≡ checked.Accepted) (h : len
         above = l;
         lines = output-lines ∙ rw (answers-count, totals-said (answersOf q t s)) refl;
         sums = ap sum (totals-said (answersOf q t s)) ∙ totals-sum q t s ∙ sym (divides s n e);
-        each = ap length output-lines ∙ length-append l (last ∷ []) ∙ omega (arith, lines-count 1 (answersOf q t s), answers-count);
+        size = ap length output-lines ∙ length-append l (last ∷ []) ∙ omega (arith, lines-count 1 (answersOf q t s), answers-count);
       }
 
 -- an empty run prints the last line alone

@@ -30,7 +30,7 @@ use Rattle.run.proofs.Counting.{sum}
 use Rattle.run.proofs.Corollaries.{totals-sum}
 use Rattle.text_writer.proofs.Digits.{decimal-short}
 use Rattle.report.specs.Line.{wordOf, valueOf, spaced, line, answerLine, refusedLine, spacedTotals, totalLine, answerLines, runLines}
-use Rattle.report.specs.Text.{ended, text}
+use Rattle.report.specs.Text.{terminated, text}
 use Rattle.report.specs.Output.{indivisible, runLimit, linesRead, linesAccepted, outputLines, output}
 use Rattle.report.proofs.Values.{number-small, value-small}
 
@@ -56,7 +56,7 @@ answer-short : (number : ℕ) (a : Answer) → Held number → Held (valueOf a) 
 answer-short number a h k = line-short number (valueOf a) (wordOf a) h k (word-short a)
 
 refused-short : (number place : ℕ) → Held number → Held place → length (text (refusedLine number place ∷ [])) ≤ 50
-unfolding refusedLine ended text
+unfolding refusedLine terminated text
 refused-short number place h k = simp length-append (omega (arith, spaced-short number h, spaced-short place k))
 
 total-short : (n : ℕ) (x : Totals) → Held n → sum x ≡ n → length (totalLine n x) ≤ 89
@@ -74,7 +74,7 @@ total-short n x h e =
 -- ---- a line for each instance, and the last
 module _ (q t : List ℕ) (accepted : check q t ≡ checked.Accepted) (last : List ℕ) where
   lines-short : (number : ℕ) (l : List (List ℕ)) → Held (number + length l) → length (text (answerLines number (map (evaluate q t) l) ++ (last ∷ []))) ≤ 51 * length l + length last + 1
-  unfolding answerLines ended text
+  unfolding answerLines terminated text
   lines-short number [] h = simp length-append (omega arith)
   lines-short number (i ∷ l) h =
       let v = value-small q t i accepted in
@@ -126,7 +126,7 @@ module _ (s : List ℕ) where
 -- ---- the output
 -- 16,384 lines of 51 bytes, and one of 90
 abbrev Fits : List ℕ → Type 0
-Fits s = length s ≤ 835674
+Fits s = length s ≤ 16384 * 51 + 90
 
 module _ (q t s : List ℕ) where
   module _ (accepted : check q t ≡ checked.Accepted) where

@@ -13,7 +13,7 @@ use Rattle.run.specs.declared.totals.Totals.{Totals}
 use Rattle.text_writer.specs.Decimal.{decimal}
 use Rattle.text_writer.proofs.Digits.{by-tenths}
 use Rattle.report.specs.Line.{wordOf, spaced, line, answerLine, refusedLine, spacedTotals, totalLine, answerLines}
-use Rattle.report.specs.Text.{lineFeed, ended, text, linesOf}
+use Rattle.report.specs.Text.{lineFeed, terminated, text, linesOf}
 
 -- ---- a byte that a text lacks
 unfoldable pub lacks : (byte : ℕ) → List ℕ → Bool
@@ -72,8 +72,8 @@ unfolding totalLine spacedTotals lacks
 total-one n x = simp (lacks-append lineFeed, spaced-one) refl
 
 -- ---- read back
-first-line : (l r : List ℕ) → OneLine l → linesOf (ended l ++ r) ≡ l ∷ linesOf r
-unfolding ended linesOf
+first-line : (l r : List ℕ) → OneLine l → linesOf (terminated l ++ r) ≡ l ∷ linesOf r
+unfolding terminated linesOf
 first-line [] r h = refl
 first-line (b ∷ l) r h = let k = lacks-first lineFeed b l h in rw (k .0, first-line l r (k .1)) refl
 

@@ -1,4 +1,4 @@
--- Lines as a text, each ended by a line feed; and the lines that stand in a text, with their words, for what 02 Q-1 says of "the number of lines above of that word".
+-- Lines as a text, each terminated by a line feed; and the lines that stand in a text, with their words, for what 02 Q-1 says of "the number of lines above of that word".
 use Prim.Native.Nat.{ℕ, _+_}
 use mathlib.Core.List.{List, [], _∷_, _++_}
 use lib.Dec.{eqb}
@@ -11,12 +11,12 @@ lineFeed = 10
 abbrev pub blank : ℕ
 blank = 32
 
-unfoldable pub ended : (line : List ℕ) → List ℕ
-ended l = l ++ (lineFeed ∷ [])
+unfoldable pub terminated : (line : List ℕ) → List ℕ
+terminated l = l ++ (lineFeed ∷ [])
 
 unfoldable pub text : (lines : List (List ℕ)) → List ℕ
 text [] = []
-text (l ∷ rest) = ended l ++ text rest
+text (l ∷ rest) = terminated l ++ text rest
 
 -- a byte before the first of some lines
 abbrev pub onFirst : (byte : ℕ) (lines : List (List ℕ)) → List (List ℕ)

@@ -18,4 +18,4 @@ pub record Totalled (records : ℕ) (printed : List ℕ) : Type 0 where
   pub lines : linesOf printed ≡ above ++ (totalLine records (wordTotals above) ∷ [])
   pub sums : wordTotals above .included + wordTotals above .excluded + wordTotals above .failed ≡ records
   -- a line more than records
-  pub each : length (linesOf printed) ≡ records + 1
+  pub size : length (linesOf printed) ≡ records + 1

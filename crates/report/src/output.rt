@@ -21,11 +21,11 @@ ghost use Rattle.filter.specs.Check as Check;
 ghost use Rattle.run.specs.Totals.{answersOf};
 ghost use Rattle.text_writer.specs.Written.{Written};
 ghost use Rattle.report.specs.Line.{refusedLine, runLines};
-ghost use Rattle.report.specs.Text.{ended, text};
+ghost use Rattle.report.specs.Text.{terminated, text};
 ghost use Rattle.report.specs.Output.{indivisible, linesAccepted, output};
 
-// A run within its limit has at most 16,384 records; a line has at most 51 bytes, the last one 90.
-pub const OUTPUT_LIMIT: usize = 835_674;
+// No output is longer: a run within its limit has at most 16,384 records, and a line at most 51 bytes, but for the totals with 90.
+pub const OUTPUT_LIMIT: usize = 16_384 * 51 + 90;
 
 // A line for each instance of the run, numbered from 1, and the totals.
 fn write_answers<'a>(out: &mut [u8], query: &'a [u8], table: &'a [u8], run: &'a [u8]) -> usize
@@ -61,7 +61,7 @@ fn write_answers<'a>(out: &mut [u8], query: &'a [u8], table: &'a [u8], run: &'a 
 }
 
 fn write_indivisible(out: &mut [u8], place: usize) -> usize
-    ensures { λ r. ⌜ Written (now (out .entry)) 0 (ended (refusedLine indivisible place)) r (now (out .exit)) ⌝ }
+    ensures { λ r. ⌜ Written (now (out .entry)) 0 (terminated (refusedLine indivisible place)) r (now (out .exit)) ⌝ }
 {
     write_refused(out, 0, run::fault::number_of(RunFault::Indivisible), place)
 }

@@ -13,7 +13,7 @@ same-length : tie.Need-same-length
 same-length c = search needs
 
 returns : tie.Need-returns
-returns c = search law.ended-written
+returns c = search law.terminated-written
 
 pub write-last-spec : {M : Type 1} → statement M
 write-last-spec =
