@@ -3,6 +3,8 @@
 use libc::STDOUT_FILENO;
 use report::output::OUTPUT_LIMIT;
 use report::output::write_output;
+ghost use Prim.Native.Nat.{_≤_};
+ghost use lib.ListN.{length};
 ghost use Rattle.io.specs.Counts.{Counts};
 
 // The open file's bytes at the start of `buf`, as far as it has room, and how many: none where a read fails, also after others that didn't.
@@ -38,12 +40,15 @@ fn read_file(path: &[u8], buf: &mut [u8]) -> usize
     n
 }
 
-fn print_output<'a>(out: &mut [u8], query: &'a [u8], table: &'a [u8], run: &'a [u8]) {
+// The buffer has room for every output.
+fn print_output<'a>(out: &mut [u8], query: &'a [u8], table: &'a [u8], run: &'a [u8])
+    requires { do ⌜ (← ⟦OUTPUT_LIMIT⟧) ≤ length (now out) ⌝ }
+{
     let n = write_output(out, query, table, run);
     io::write_all(STDOUT_FILENO, &out[..n]);
 }
 
-// The buffer has room for every output. It comes as an array, whose length is its type's: as a slice of zeros it would be counted byte by byte in the proof of its length.
+// The buffer comes as an array, whose length is its type's: as a slice of zeros it would be counted byte by byte in the proof of its length.
 fn print_whole<'a>(out: &mut [u8; OUTPUT_LIMIT], query: &'a [u8], table: &'a [u8], run: &'a [u8]) {
     print_output(out, query, table, run);
 }

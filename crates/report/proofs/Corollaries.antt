@@ -61,6 +61,10 @@ module _ (q t s : List ℕ) where
   pub printed-lines : linesOf (output q t s) ≡ outputLines q t s
   printed-lines = read-back (outputLines q t s) (reported-plain (outputLines q t s) never-41)
 
+  -- each of them ends in a line feed, the last one too
+  pub all-terminated : text (linesOf (output q t s)) ≡ output q t s
+  all-terminated = ap text printed-lines
+
 -- ---- a refused call
 module _ (q t s : List ℕ) where
   pub refused-alone : (r : Refusal) → check q t ≡ checked.Refused r → linesOf (output q t s) ≡ refusedLine (numberOf (r .cause)) (r .place) ∷ []

@@ -124,7 +124,6 @@ module _ (s : List ℕ) where
   reading-starts = records-all .starts 0
 
 -- ---- the output
--- 16,384 lines of 51 bytes, and one of 90
 abbrev Fits : List ℕ → Type 0
 Fits s = length s ≤ 16384 * 51 + 90
 

@@ -47,6 +47,5 @@ unfoldable pub answerLines : (number : ℕ) → List Answer → List (List ℕ)
 answerLines number [] = []
 answerLines number (a ∷ rest) = answerLine number a ∷ answerLines (number + 1) rest
 
--- of a run: a line for each answer, and the totals
 abbrev pub runLines : List Answer → List (List ℕ)
 runLines answers = answerLines 1 answers ++ (totalLine (length answers) (totalsOf answers) ∷ [])

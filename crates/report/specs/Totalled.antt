@@ -8,14 +8,12 @@ use Rattle.run.specs.declared.totals.Totals.{Totals}
 use Rattle.report.specs.Line.{totalLine}
 use Rattle.report.specs.Text.{linesOf, linesWith}
 
--- how many lines have each word
 abbrev pub wordTotals : (lines : List (List ℕ)) → Totals
 wordTotals lines = record { included = linesWith (bytes "included") lines; excluded = linesWith (bytes "excluded") lines; failed = linesWith (bytes "failed") lines }
 
--- what is printed for a run of so many records
-pub record Totalled (records : ℕ) (printed : List ℕ) : Type 0 where
+-- what is printed for a run of `n` records
+pub record Totalled (n : ℕ) (printed : List ℕ) : Type 0 where
   pub above : List (List ℕ)
-  pub lines : linesOf printed ≡ above ++ (totalLine records (wordTotals above) ∷ [])
-  pub sums : wordTotals above .included + wordTotals above .excluded + wordTotals above .failed ≡ records
-  -- a line more than records
-  pub size : length (linesOf printed) ≡ records + 1
+  pub lines : linesOf printed ≡ above ++ (totalLine n (wordTotals above) ∷ [])
+  pub sums : wordTotals above .included + wordTotals above .excluded + wordTotals above .failed ≡ n
+  pub size : length (linesOf printed) ≡ n + 1
