@@ -1,5 +1,6 @@
 use Rattle.report.proofs.Writing as law
 use borrow.Author.Needs.{needs}
+use native.Mathlib.Omega.{arith}
 use Rattle.report.proofs.output.write_run.Statement.{statement}
 use Rattle.report.proofs.output.write_run.Tie as tie
 
@@ -10,7 +11,7 @@ same-length : tie.Need-same-length
 same-length c = search needs
 
 returns : tie.Need-returns
-returns c = search law.long-written
+returns c = law.long-written _ _ (c .before .before .before .before .before .before .before .before .before .args .run .now) (omega (arith, c .before .before .before .before .if1 .taken)) (c .before .before .write-indivisible .ensures)
 
 read-run-requires : tie.Need-read-run-requires
 read-run-requires c κs = search needs
