@@ -48,6 +48,7 @@ mod answer;
 mod raw;
 pub mod record;
 mod refusal;
+pub mod types;
 
 pub use answer::{Answer, FaultText, Totals, Verdict, EXCLUDED, FAILED, INCLUDED};
 pub use refusal::{Cause, Refusal};
