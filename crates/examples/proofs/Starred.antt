@@ -98,11 +98,11 @@ unfolding
     unicode-lead.startsWith unicode-lead.rowIn unicode-lead.rowOf unicode-lead.leadLength unicode-lead.secondLow unicode-lead.secondHigh
     unicode-scalar.isScalarValue unicode-scalar.scalarOf unicode-scalar.scalarAt unicode-scalar.encode
     unicode-well-formed.inRange unicode-well-formed.fits unicode-well-formed.sequenceIn unicode-well-formed.sequenceAt unicode-well-formed.illFormedFrom
-    record-kind.scalarKind record-kind.kindOf
+    record-kind.integerKind record-kind.scalarKind record-kind.kindOf
     record-name.letter record-name.nameByte record-name.all record-name.validName record-name.lower record-name.sameName
     record-record.recordAt record-record.records
     record-reserved.reservedWords record-reserved.among record-reserved.isReserved
-    record-write.littleEndian record-write.write
+    record-write.littleEndian record-write.stored record-write.write
     real-real.magnitude real-real.realOf
     real-scale.scaleOf
     datetime-calendar.leapYears datetime-calendar.daysBeforeMonth

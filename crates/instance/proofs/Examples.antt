@@ -10,6 +10,7 @@ use Rattle.base.specs.Digit
 use Rattle.base.specs.Vectors.{results, expected}
 use Rattle.record.specs.Record
 use Rattle.record.specs.Write
+use Rattle.record.specs.Write.{write}
 use Rattle.record.specs.Kind
 use Rattle.unicode.specs.WellFormed
 use Rattle.unicode.specs.Scalar
@@ -27,26 +28,27 @@ use Rattle.instance.specs.Start.{startOf}
 use Rattle.instance.specs.Value
 use Rattle.instance.specs.Value.{environment}
 use Rattle.instance.specs.Sample.{sampleInstance}
-use Rattle.instance.specs.Examples.{types, samples, lengths, readings, starts}
+use Rattle.instance.specs.Examples.{one, types, samples, lengths, readings, integers, starts}
 
 all-judged : (results (λ (p : List ℕ × List ℕ). conformity (p .0) (p .1)) types ≡ expected types)
     × (results (conformity sampleTable) samples ≡ expected samples) × (results (conformity sampleTable) lengths ≡ expected lengths)
 unfolding
-    LittleEndian.unsigned Walk.walk Walk.from Record.recordAt Record.records Write.littleEndian Write.write Kind.scalarKind Kind.kindOf
+    LittleEndian.unsigned Walk.walk Walk.from Record.recordAt Record.records Write.littleEndian Write.stored Write.write Kind.integerKind Kind.scalarKind Kind.kindOf
     Range.within Digit.digitOf Digit.allDigits Digit.valueOf Properties.kindsIn
     WellFormed.inRange WellFormed.fits WellFormed.sequenceIn WellFormed.sequenceAt WellFormed.illFormedFrom
     Calendar.leapYears Calendar.daysBeforeMonth Text.shaped Text.dateIn Text.timeIn Datetime.datetimeOf
     Body.booleanFits Body.textFits Body.char16Fits Body.datetimeFits Fault.elementsFit Fault.furtherFault Fault.faultIn Fault.faultUnder
 all-judged = (refl, refl, refl)
 
-sample-read : results (environment sampleTable sampleInstance) readings ≡ expected readings
+all-read : (results (environment sampleTable sampleInstance) readings ≡ expected readings)
+    × (results (λ (p : ℕ × List ℕ). environment (one (p .0)) (write (p .0) (p .1)) 0) integers ≡ expected integers)
 unfolding
-    LittleEndian.unsigned LittleEndian.twosComplement Walk.walk Walk.from Record.recordAt Record.records Write.littleEndian Write.write
-    Kind.scalarKind Kind.kindOf Range.within Properties.kindsIn
+    LittleEndian.unsigned LittleEndian.twosComplement Walk.walk Walk.from Record.recordAt Record.records Write.littleEndian Write.stored Write.write
+    Kind.integerKind Kind.scalarKind Kind.kindOf Range.within Properties.kindsIn
     WellFormed.inRange WellFormed.fits WellFormed.sequenceIn WellFormed.sequenceAt Scalar.scalarOf Scalar.scalarAt Characters.charactersFrom
     Start.startOf Value.familyValue Value.elements Value.valueAt Value.environmentUnder
-sample-read = refl
+all-read = (refl, refl)
 
 sample-laid : (results (startOf sampleInstance) starts ≡ expected starts) × (length sampleInstance ≡ 95)
-unfolding LittleEndian.unsigned Record.recordAt Write.littleEndian Write.write Start.startOf
+unfolding LittleEndian.unsigned Record.recordAt Write.littleEndian Write.stored Write.write Start.startOf
 sample-laid = (refl, refl)

@@ -31,10 +31,24 @@ types =
     ∷ ((one 1, write 1 (2 ∷ [])), faultAt 0)
     ∷ ((one 1, write 1 []), faultAt 0)
     ∷ ((one 1, write 1 (0 ∷ 0 ∷ [])), faultAt 0)
-    ∷ ((one 2, write 2 (replicate 8 255)), Conforming)
-    ∷ ((one 2, write 2 (replicate 7 255)), faultAt 0)
-    ∷ ((one 3, write 3 (replicate 8 128)), Conforming)
-    ∷ ((one 3, write 3 (replicate 9 0)), faultAt 0)
+    ∷ ((one 0x0011, write 0x0011 (255 ∷ [])), Conforming)
+    ∷ ((one 0x0011, write 0x0011 []), faultAt 0)
+    ∷ ((one 0x0012, write 0x0012 (replicate 2 255)), Conforming)
+    ∷ ((one 0x0012, write 0x0012 (replicate 3 0)), faultAt 0)
+    ∷ ((one 0x0014, write 0x0014 (replicate 4 255)), Conforming)
+    ∷ ((one 0x0014, write 0x0014 (replicate 8 0)), faultAt 0)
+    ∷ ((one 0x0018, write 0x0018 (replicate 8 255)), Conforming)
+    ∷ ((one 0x0018, write 0x0018 (replicate 7 255)), faultAt 0)
+    ∷ ((one 0x0021, write 0x0021 (128 ∷ [])), Conforming)
+    ∷ ((one 0x0021, write 0x0021 (replicate 2 0)), faultAt 0)
+    ∷ ((one 0x0022, write 0x0022 (replicate 2 128)), Conforming)
+    ∷ ((one 0x0022, write 0x0022 (0 ∷ [])), faultAt 0)
+    ∷ ((one 0x0024, write 0x0024 (replicate 4 128)), Conforming)
+    ∷ ((one 0x0024, write 0x0024 (replicate 3 0)), faultAt 0)
+    ∷ ((one 0x0028, write 0x0028 (replicate 8 128)), Conforming)
+    ∷ ((one 0x0028, write 0x0028 (replicate 9 0)), faultAt 0)
+    -- the same bytes of another kind of integer
+    ∷ ((one 0x0028, write 0x0018 (replicate 8 0)), faultAt 0)
     ∷ ((one 4, write 4 (replicate 4 255)), Conforming)
     ∷ ((one 4, write 4 (replicate 8 0)), faultAt 0)
     ∷ ((one 5, write 5 (replicate 8 255)), Conforming)
@@ -58,14 +72,14 @@ types =
     ∷ ((one 0x0106, write 0 []), Conforming)
     ∷ ((one 6, write 0 (7 ∷ [])), faultAt 0)
     -- arrays
-    ∷ ((one 0x0102, write 0x0102 []), Conforming)
-    ∷ ((one 0x0102, write 0x0102 (write 2 (replicate 8 0) ++ write 0 [])), Conforming)
-    ∷ ((one 0x0102, write 0x0102 (write 0x0102 (replicate 8 0))), faultAt 0)
-    ∷ ((one 0x0102, write 0x0102 (write 0 (7 ∷ []))), faultAt 0)
-    ∷ ((one 0x0102, write 0x0102 (write 2 (replicate 8 0) ++ (0 ∷ []))), faultAt 0)
-    ∷ ((one 0x0102, write 2 (replicate 8 0)), faultAt 0)
-    ∷ ((one 0x0102, write 0x0102 (copies 256 (write 0 []))), Conforming)
-    ∷ ((one 0x0102, write 0x0102 (copies 257 (write 0 []))), faultAt 0)
+    ∷ ((one 0x0118, write 0x0118 []), Conforming)
+    ∷ ((one 0x0118, write 0x0118 (write 0x0018 (replicate 8 0) ++ write 0 [])), Conforming)
+    ∷ ((one 0x0118, write 0x0118 (write 0x0118 (replicate 8 0))), faultAt 0)
+    ∷ ((one 0x0118, write 0x0118 (write 0 (7 ∷ []))), faultAt 0)
+    ∷ ((one 0x0118, write 0x0118 (write 0x0018 (replicate 8 0) ++ (0 ∷ []))), faultAt 0)
+    ∷ ((one 0x0118, write 0x0018 (replicate 8 0)), faultAt 0)
+    ∷ ((one 0x0118, write 0x0118 (copies 256 (write 0 []))), Conforming)
+    ∷ ((one 0x0118, write 0x0118 (copies 257 (write 0 []))), faultAt 0)
     ∷ []
 
 -- instances of the sample table
@@ -78,7 +92,7 @@ samples =
     ∷ (take 19 sampleInstance, faultAt 17)
     ∷ (take 90 sampleInstance, faultAt 83)
     -- the first of two faults
-    ∷ (take 5 sampleInstance ++ write 3 (replicate 7 0) ++ drop 17 (take 90 sampleInstance), faultAt 5)
+    ∷ (take 5 sampleInstance ++ write 0x0028 (replicate 7 0) ++ drop 17 (take 90 sampleInstance), faultAt 5)
     -- more records: any kind, kind 0 with a body; one that runs past the end
     ∷ (sampleInstance ++ write 0 (7 ∷ []) ++ write 0xffff [], Conforming)
     ∷ (sampleInstance ++ (0 ∷ []), faultAt 95)
@@ -96,10 +110,27 @@ lengths =
 abbrev pub readings : List (ℕ × Entry)
 readings =
     (0, property 1 (single (truth true)))
-    ∷ (1, property 3 (single (whole (negsuc 4))))
-    ∷ (2, property 0x0102 (array (some (whole (pos 3)) ∷ some (whole (pos 14)) ∷ [])))
+    ∷ (1, property 0x0028 (single (whole (negsuc 4))))
+    ∷ (2, property 0x0118 (array (some (whole (pos 3)) ∷ some (whole (pos 14)) ∷ [])))
     ∷ (3, property 6 (single (text (bytes "FAN_2"))))
     ∷ (6, absent)
+    ∷ []
+
+-- what integers read, by the kind and the bytes: the same bytes with and without a sign, at every width
+abbrev pub integers : List ((ℕ × List ℕ) × Entry)
+integers =
+    ((0x0011, 255 ∷ []), property 0x0011 (single (whole (pos 255))))
+    ∷ ((0x0021, 255 ∷ []), property 0x0021 (single (whole (negsuc 0))))
+    ∷ ((0x0021, 128 ∷ []), property 0x0021 (single (whole (negsuc 127))))
+    ∷ ((0x0021, 127 ∷ []), property 0x0021 (single (whole (pos 127))))
+    ∷ ((0x0012, 0 ∷ 1 ∷ []), property 0x0012 (single (whole (pos 256))))
+    ∷ ((0x0022, 255 ∷ 0 ∷ []), property 0x0022 (single (whole (pos 255))))
+    ∷ ((0x0022, 0 ∷ 128 ∷ []), property 0x0022 (single (whole (negsuc 32767))))
+    ∷ ((0x0014, replicate 4 255), property 0x0014 (single (whole (pos 0xffffffff))))
+    ∷ ((0x0024, replicate 4 255), property 0x0024 (single (whole (negsuc 0))))
+    ∷ ((0x0018, replicate 8 255), property 0x0018 (single (whole (pos 0xffffffffffffffff))))
+    ∷ ((0x0028, replicate 8 255), property 0x0028 (single (whole (negsuc 0))))
+    ∷ ((0x0028, replicate 7 0 ++ (128 ∷ [])), property 0x0028 (single (whole (negsuc 0x7fffffffffffffff))))
     ∷ []
 
 abbrev pub starts : List (ℕ × ℕ)

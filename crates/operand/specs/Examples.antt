@@ -67,8 +67,8 @@ sampleNamed q = byPath q (property (scan q) (tokenAt q 0))
 
 abbrev pub names : List (List ℕ × Found)
 names =
-    (bytes "Dev", Property 2 0x0102)
-    ∷ (bytes "p.dEV", Property 2 0x0102)
+    (bytes "Dev", Property 2 0x0118)
+    ∷ (bytes "p.dEV", Property 2 0x0118)
     ∷ (bytes "x.Dev", Absent)
     ∷ (bytes "P.Dev.Name", Absent)
     ∷ (bytes "P", Absent)

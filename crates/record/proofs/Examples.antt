@@ -34,5 +34,5 @@ unfolding Range.within Name.lower Name.sameName Reserved.reservedWords Reserved.
 words-judged = refl
 
 kinds-read : results kindOf kinds ≡ expected kinds
-unfolding Kind.scalarKind Kind.kindOf
+unfolding Kind.integerKind Kind.scalarKind Kind.kindOf
 kinds-read = refl

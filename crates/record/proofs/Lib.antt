@@ -1,3 +1,4 @@
+pub mod Widths
 pub mod Records
 pub mod Reach
 pub mod Shift

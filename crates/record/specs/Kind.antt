@@ -1,7 +1,7 @@
--- 01 "Records" (types and value bodies) and "Kinds" (rows): the definition that knows the types' numbers.
-use Prim.Native.Nat.{ℕ, _-_}
+-- 01 "Records" (types and value bodies) and "Kinds" (rows), 02 Q-2 (integers): the definition that knows the types' numbers.
+use Prim.Native.Nat.{ℕ, _-_, _/_, _%_}
 use mathlib.Core.List.{List, [], _∷_}
-use mathlib.Core.Bool.{Bool, true, false}
+use mathlib.Core.Bool.{Bool, true, false, _||_}
 use lib.Dec.{ltb, eqb}
 use Rattle.base.specs.Pick.{pick}
 use Rattle.record.specs.declared.kind.Family.{Family}
@@ -19,12 +19,10 @@ pub record Numbered : Type 0 where
 abbrev type : ℕ → Family → (width : ℕ) → (signed : Bool) → Numbered
 type n f w g = record { number = n; says = scalarOf f w g }
 
--- the types: number, family, bytes of a body (0 where any number), whether there is a sign
+-- the types but the integers: number, family, bytes of a body (0 where any number), whether there is a sign
 abbrev pub types : List Numbered
 types =
     type 1 Boolean 1 false
-    ∷ type 2 Integer 8 false
-    ∷ type 3 Integer 8 true
     ∷ type 4 Real 4 false
     ∷ type 5 Real 8 false
     ∷ type 6 Text 0 false
@@ -38,9 +36,20 @@ abbrev pub find : ℕ → List Numbered → Kind
 find n [] = Unknown
 find n (t ∷ ts) = pick (eqb n (t .number)) (t .says) (find n ts)
 
+-- 02 Q-2: "Unsigned kinds are 0x0011, 0x0012, 0x0014 and 0x0018, signed 0x0021, 0x0022, 0x0024 and 0x0028; the last hex digit is the body's bytes."
+abbrev pub isWidth : ℕ → Bool
+isWidth w = eqb w 1 || (eqb w 2 || (eqb w 4 || eqb w 8))
+
+-- the first hex digit: 1 is without a sign, 2 with one
+abbrev pub integerOf : (digit width : ℕ) → Kind
+integerOf d w = pick (eqb d 1) (scalarOf Integer w false) (pick (eqb d 2) (scalarOf Integer w true) Unknown)
+
+unfoldable pub integerKind : (digit width : ℕ) → Kind
+integerKind d w = pick (isWidth w) (integerOf d w) Unknown
+
 -- what a type's number says
 unfoldable pub scalarKind : ℕ → Kind
-scalarKind n = find n types
+scalarKind n = pick (ltb n 0x0010) (find n types) (integerKind (n / 16) (n % 16))
 
 abbrev pub arrayOf : (element : ℕ) → Kind → Kind
 arrayOf e Unknown = Unknown
@@ -51,7 +60,7 @@ arrayOf e (Array f t) = Unknown
 unfoldable pub kindOf : ℕ → Kind
 kindOf k = pick (ltb k 0x0100) (scalarKind k) (arrayOf (k - 0x0100) (scalarKind (k - 0x0100)))
 
--- the rows of Table 1, {1} {2,3} {4,5} {6,7} {8} {9} {10}, numbered in this order
+-- the rows of Table 1, {1} {2,3} {4,5} {6,7} {8} {9} {10}, numbered in this order; of the integers that stand for {2,3}, 02 Q-2: "All eight share one row"
 abbrev pub row : Family → ℕ
 row Boolean = 1
 row Integer = 2

@@ -1,8 +1,8 @@
 // Kinds: what a property's kind says of its values.
 ghost use mathlib.Core.Path.{_≡_};
-ghost use Rattle.record.specs.Kind.{scalarKind, arrayOf, kindOf, row, sameRow};
+ghost use Rattle.record.specs.Kind.{types, find, isWidth, integerKind, scalarKind, arrayOf, kindOf, row, sameRow};
 
-// The families of 01's ten types; integers and reals come in widths.
+// The families of types; integers and reals come in widths.
 pub enum Family {
     Boolean,
     Integer,
@@ -38,18 +38,12 @@ fn scalar(family: Family, width: usize, signed: bool) -> Kind
     })
 }
 
-// The one function that knows the types' numbers.
-fn scalar_kind(number: usize) -> Kind
-    ensures { λ r. ⌜ r ≡ scalarKind number ⌝ }
+// The types but the integers.
+fn plain_kind(number: usize) -> Kind
+    ensures { λ r. ⌜ r ≡ find number types ⌝ }
 {
     if number == 1 {
         return scalar(Family::Boolean, 1, false);
-    }
-    if number == 2 {
-        return scalar(Family::Integer, 8, false);
-    }
-    if number == 3 {
-        return scalar(Family::Integer, 8, true);
     }
     if number == 4 {
         return scalar(Family::Real, 4, false);
@@ -73,6 +67,38 @@ fn scalar_kind(number: usize) -> Kind
         return scalar(Family::Reference, 0, false);
     }
     Kind::Unknown
+}
+
+fn is_width(width: usize) -> bool
+    ensures { λ r. ⌜ r ≡ isWidth width ⌝ }
+{
+    (width == 1) | ((width == 2) | ((width == 4) | (width == 8)))
+}
+
+// The integers: the first hex digit is 1 without a sign and 2 with one, the last is the width.
+fn integer_kind(digit: usize, width: usize) -> Kind
+    ensures { λ r. ⌜ r ≡ integerKind digit width ⌝ }
+{
+    if !is_width(width) {
+        return Kind::Unknown;
+    }
+    if digit == 1 {
+        return scalar(Family::Integer, width, false);
+    }
+    if digit == 2 {
+        return scalar(Family::Integer, width, true);
+    }
+    Kind::Unknown
+}
+
+// What a type's number says: an integer's is two hex digits, any other's is one.
+fn scalar_kind(number: usize) -> Kind
+    ensures { λ r. ⌜ r ≡ scalarKind number ⌝ }
+{
+    if number < 0x0010 {
+        return plain_kind(number);
+    }
+    integer_kind(number / 16, number % 16)
 }
 
 fn array_of(element: usize, kind: Kind) -> Kind

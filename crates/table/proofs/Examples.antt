@@ -27,7 +27,7 @@ tables-read : results tableReading tables ≡ expected tables
 unfolding
     LittleEndian.unsigned Walk.walk Walk.from Record.recordAt Record.records Write.littleEndian Write.write
     Range.within Name.letter Name.nameByte Name.all Name.validName Name.lower Name.sameName
-    Reserved.reservedWords Reserved.among Reserved.isReserved Kind.scalarKind Kind.kindOf Table.properties Table.tableReading
+    Reserved.reservedWords Reserved.among Reserved.isReserved Kind.integerKind Kind.scalarKind Kind.kindOf Table.properties Table.tableReading
 tables-read = refl
 
 names-found : results (findProperty sampleTable) lookups ≡ expected lookups

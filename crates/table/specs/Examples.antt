@@ -33,14 +33,20 @@ tables =
     ∷ (write 0x0200 [], Fault Malformed 0)
     ∷ (write 0x0200 (replicate 65 120), Fault Malformed 0)
     -- a property named by a reserved word, or as the class
-    ∷ (sampleClass ++ write 2 (bytes "And") ++ write 1 (bytes "p"), Good 2)
+    ∷ (sampleClass ++ write 0x0011 (bytes "And") ++ write 1 (bytes "p"), Good 2)
     -- kinds that say nothing, and a second class
     ∷ (sampleClass ++ write 0 (bytes "a"), Fault Malformed 5)
     ∷ (sampleClass ++ write 11 (bytes "a"), Fault Malformed 5)
+    ∷ (sampleClass ++ write 0x0013 (bytes "a"), Fault Malformed 5)
     ∷ (sampleClass ++ write 0x0100 (bytes "a"), Fault Malformed 5)
     ∷ (sampleClass ++ write 0x010b (bytes "a"), Fault Malformed 5)
     ∷ (sampleClass ++ write 0x0202 (bytes "a"), Fault Malformed 5)
     ∷ (sampleClass ++ write 1 (bytes "a") ++ sampleClass, Fault Malformed 10)
+    -- the kinds of integers before their widths were written out
+    ∷ (sampleClass ++ write 1 (bytes "a") ++ write 2 (bytes "b"), Fault Malformed 10)
+    ∷ (sampleClass ++ write 1 (bytes "a") ++ write 3 (bytes "b"), Fault Malformed 10)
+    ∷ (sampleClass ++ write 1 (bytes "a") ++ write 0x0102 (bytes "b"), Fault Malformed 10)
+    ∷ (sampleClass ++ write 1 (bytes "a") ++ write 0x0103 (bytes "b"), Fault Malformed 10)
     -- a name twice, in another case too; before a later fault; after one in the same record
     ∷ (sampleTable ++ write 6 (bytes "tEMP"), Fault NameTwice 48)
     ∷ (sampleClass ++ write 1 (bytes "a") ++ write 1 (bytes "A") ++ write 0 (bytes "b"), Fault NameTwice 10)
@@ -57,7 +63,7 @@ tables =
 abbrev pub lookups : List (List ℕ × Found)
 lookups =
     (bytes "On", Property 0 1)
-    ∷ (bytes "dEV", Property 2 0x0102)
+    ∷ (bytes "dEV", Property 2 0x0118)
     ∷ (bytes "R", Property 5 5)
     ∷ (bytes "P", Absent)
     ∷ (bytes "Tem", Absent)
