@@ -1,22 +1,18 @@
--- In an instance that conforms every value has the form of its property's kind; a number's body is all of the bytes that are read.
-use Prim.Native.Nat.{ℕ, zero, suc, _+_, _-_, _*_, _/_, _^_, _≤_, _<_}
+-- In an instance that conforms every value has the form of its property's kind.
+use Prim.Native.Nat.{ℕ, suc, _≤_, _<_}
 use mathlib.Core.List.{List, [], _∷_}
 use mathlib.Core.Bool.{Bool, true, false}
 use mathlib.Core.Option.{Option, none, some}
 use mathlib.Core.Path.{_≡_, refl, ap}
 use mathlib.Core.Logic.{_⊎_, inl, inr}
 use native.Mathlib.Omega.{arith}
-use native.Mathlib.Nat.{pow-succ'}
-use lib.ListN.{length, getD, getElem?, take}
-use lib.Seq.{take-all}
-use lib.Dec.{ltb, leb, eqb}
-use lib.IntN.{ℤ, pos, negsuc}
+use lib.ListN.{length, getD, getElem?}
+use lib.Dec.{ltb, eqb}
+use lib.IntN.{ℤ}
 use lib.Ieee.{Float}
-use borrow.Author.Tests.{ltb-true, ltb-false, leb-true, leb-false, eqb-false}
+use borrow.Author.Tests.{ltb-true, ltb-false, eqb-false}
 use Rattle.base.specs.Pick.{pick}
 use Rattle.base.specs.Part.{part}
-use Rattle.base.specs.LittleEndian.{unsigned, twosComplement}
-use Rattle.base.proofs.LittleEndian.{signed-low, signed-high}
 use Rattle.record.specs.Record.{numberAt, Records, item, broken, ended, records}
 use Rattle.record.specs.Kind.{kindOf}
 use Rattle.record.specs.declared.kind.Family as family
@@ -24,7 +20,7 @@ use Rattle.record.specs.declared.kind.Family.the-variants.{Boolean, Integer, Re
 use Rattle.record.specs.declared.kind.ValueType.{ValueType}
 use Rattle.record.specs.declared.kind.Kind.{Kind}
 use Rattle.record.specs.declared.kind.Kind.the-variants.{Unknown, Scalar, Array}
-use Rattle.base.proofs.ByteLists.{Bytes, bytes-part, unsigned-below}
+use Rattle.base.proofs.ByteLists.{Bytes, bytes-part}
 use Rattle.record.proofs.Small.{number-below}
 use Rattle.record.proofs.Types.{Said, SizedBy, Sized, sized}
 use Rattle.unicode.proofs.Characters.{Scalars, characters-scalar}
@@ -34,15 +30,10 @@ use Rattle.table.specs.Properties.{kindsOf}
 use Rattle.instance.specs.Body.{HasFamily, HasType}
 use Rattle.instance.specs.Conforms.{Slot, count, Elements, HasKind, Conforms}
 use Rattle.instance.specs.Start.{startOf}
-use Rattle.instance.specs.Value.{ScalarValue, truth, whole, real, text, octets, datetime, reference, Value, null, single, array, Entry, absent, property, wholeIn, familyValue, scalarIn, elementIn, elements, bodyValue, valueAt, entryAt, environmentUnder, environment}
+use Rattle.instance.specs.Value.{ScalarValue, truth, whole, real, text, octets, datetime, reference, Value, null, single, array, Entry, absent, property, familyValue, scalarIn, elementIn, elements, bodyValue, valueAt, entryAt, environmentUnder, environment}
+use Rattle.instance.specs.Integers.{InRange}
+use Rattle.instance.proofs.Integers.{range}
 use Rattle.instance.proofs.Environment.{record-of, some-at, none-at}
-
--- a whole number of w bytes, with a sign or not
-abbrev pub InRange : (signed : Bool) (w : ℕ) → ℤ → Type 0
-InRange false w (pos n) = n < 256 ^ w
-InRange false w (negsuc n) = ⊥
-InRange true w (pos n) = 2 * n < 256 ^ w
-InRange true w (negsuc n) = 2 * n < 256 ^ w
 
 -- a value has the form of a family
 pub data Formed (w : ℕ) (signed : Bool) : family.Family → ScalarValue → Type 0 where
@@ -76,37 +67,6 @@ Valued (Array e t) (array xs) = (length xs ≤ 256) × EachFormed t xs
 abbrev pub Entered : Entry → Type 0
 Entered absent = Unit
 Entered (property k v) = Valued (kindOf k) v
-
--- the bytes that are read of a number's body are all of it
-pub whole-body : (t : ValueType) (s : List ℕ) → Sized t → t .family ≡ Integer → HasType t s → take 8 s ≡ s
-whole-body t s z e h =
-    let l : length s ≡ t .width = rw e at h in
-    let b : (1 ≤ t .width) × (t .width ≤ 8) = rw e at z in
-    take-all 8 s (omega (arith, b .1))
-
-positive : (k : ℕ) → 1 ≤ 256 ^ k
-positive zero = omega arith
-positive (suc k) = omega (arith, pow-succ' 256 k, positive k)
-
-range-signed : (s : List ℕ) → Bytes s → InRange true (length s) (twosComplement s)
-range-signed s h = go (leb (unsigned s) ((256 ^ length s - 1) / 2)) refl
-  where
-    ones : 256 ^ length s - 1 + 1 ≡ 256 ^ length s
-    ones = omega (arith, positive (length s))
-
-    go : (b : Bool) → leb (unsigned s) ((256 ^ length s - 1) / 2) ≡ b → InRange true (length s) (twosComplement s)
-    go true e =
-        let l = leb-true (unsigned s) ((256 ^ length s - 1) / 2) e in
-        rw (← signed-low s (256 ^ length s - 1) refl ones l) (omega (arith, positive (length s)))
-    go false e =
-        let l = leb-false (unsigned s) ((256 ^ length s - 1) / 2) e in
-        let u = unsigned-below s h in
-        rw (← signed-high s (256 ^ length s - 1) refl ones l u) (omega (arith, positive (length s)))
-
--- what a body of `w` bytes holds is a number of that width
-pub range : (g : Bool) (w : ℕ) (s : List ℕ) → w ≤ 8 → Bytes s → length s ≡ w → InRange g w (wholeIn g s)
-range false w s z h e = let q = take-all 8 s (omega arith) in rw (← e, q) (unsigned-below s h)
-range true w s z h e = let q = take-all 8 s (omega arith) in rw (← e, q) (range-signed s h)
 
 formed : (f : family.Family) (w : ℕ) (g : Bool) (s : List ℕ) → SizedBy f w → Bytes s → HasFamily f w s → Formed w g f (familyValue f w g s)
 unfolding familyValue

@@ -4,5 +4,6 @@ pub mod Decides
 pub mod First
 pub mod Built
 pub mod Environment
+pub mod Integers
 pub mod Formed
 pub mod Examples

@@ -54,18 +54,21 @@ pub record WholeIn (n at start len next : ℕ) : Type 0 where
 abbrev Found : ℕ → ℕ → RecordAt → Type 0
 Found n at (Whole kind start len next) = WholeIn n at start len next
 Found n at Broken = Unit
-Found n at End = Unit
+Found n at End = n ≤ at
 
 found : (s : List ℕ) (at : ℕ) → Found (length s) at (recordAt s at)
 found s at = go (view s at)
   where
     go : View s at → Found (length s) at (recordAt s at)
-    go (ends h e) = rw e tt
+    go (ends h e) = rw e h
     go (breaks h g e) = rw e tt
     go (stands h e) = rw e (record { begins = refl; ends = refl; within = h })
 
 pub whole-in : (s : List ℕ) (at kind start len next : ℕ) → recordAt s at ≡ Whole kind start len next → WholeIn (length s) at start len next
 whole-in s at kind start len next e = rw e at (found s at)
+
+pub at-last : (s : List ℕ) (at : ℕ) → recordAt s at ≡ End → length s ≤ at
+at-last s at e = rw e at (found s at)
 
 -- `records`, one step
 pub records-at : (s : List ℕ) (at : ℕ) → records s at ≡ follow at (recordAt s at) (records s)

@@ -14,64 +14,95 @@ use Rattle.record.specs.declared.kind.Family.the-variants.{Boolean, Inte
 use Rattle.record.specs.declared.kind.ValueType.{ValueType}
 use Rattle.record.specs.declared.kind.Kind.{Kind}
 use Rattle.record.specs.declared.kind.Kind.the-variants.{Unknown, Scalar, Array}
-use Rattle.record.specs.Kind.{Numbered, types, find, isWidth, integerOf, integerKind, scalarKind, arrayOf, kindOf, row}
+use Rattle.record.specs.Kind.{scalarOf, Numbered, types, find, isWidth, integerOf, integerKind, scalarKind, arrayOf, kindOf, row}
 
--- a property of the type that a kind is about, if it says any
+-- ---- what holds of each
+abbrev pub Each : (Kind → Type 0) → List Numbered → Type 0
+Each P [] = Unit
+Each P (n ∷ ns) = P (n .says) × Each P ns
+
+module _ (P : Kind → Type 0) (unknown : P Unknown) where
+  picked : (b : Bool) (k j : Kind) → P k → P j → P (pick b k j)
+  picked true k j h g = h
+  picked false k j h g = g
+
+  each-find : (n : ℕ) (ns : List Numbered) → Each P ns → P (find n ns)
+  each-find n [] h = unknown
+  each-find n (m ∷ ns) h = picked (eqb n (m .number)) (m .says) (find n ns) (h .0) (each-find n ns (h .1))
+
+  -- of the integers, by the first hex digit and the width
+  abbrev Integers : (digit width : ℕ) → Type 0
+  Integers d w = isWidth w ≡ true → (d ≡ 1 → P (scalarOf Integer w false)) × (d ≡ 2 → P (scalarOf Integer w true))
+
+  each-integer : (d w : ℕ) → Integers d w → P (integerKind d w)
+  unfolding integerKind
+  each-integer d w i = go (isWidth w) refl
+    where
+      with-sign : (b : Bool) → eqb d 2 ≡ b → isWidth w ≡ true → P (pick b (scalarOf Integer w true) Unknown)
+      with-sign true f e = (i e) .1 (eqb-true d 2 f)
+      with-sign false f e = unknown
+
+      any-sign : (b : Bool) → eqb d 1 ≡ b → isWidth w ≡ true → P (pick b (scalarOf Integer w false) (pick (eqb d 2) (scalarOf Integer w true) Unknown))
+      any-sign true f e = (i e) .0 (eqb-true d 1 f)
+      any-sign false f e = with-sign (eqb d 2) refl e
+
+      go : (b : Bool) → isWidth w ≡ b → P (pick b (integerOf d w) Unknown)
+      go true e = any-sign (eqb d 1) refl e
+      go false e = unknown
+
+  pub each-scalar : (n : ℕ) → Integers (n / 16) (n % 16) → Each P types → P (scalarKind n)
+  unfolding scalarKind
+  each-scalar n i h = picked (ltb n 0x0010) (find n types) (integerKind (n / 16) (n % 16)) (each-find n types h) (each-integer (n / 16) (n % 16) i)
+
+-- ---- a kind says an array only of a type
+abbrev NoArray : Kind → Type 0
+NoArray Unknown = Unit
+NoArray (Scalar t) = Unit
+NoArray (Array e t) = ⊥
+
+abbrev pub OfElements : Kind → Type 0
+OfElements Unknown = Unit
+OfElements (Scalar t) = Unit
+OfElements (Array e t) = scalarKind e ≡ Scalar t
+
+-- an array's elements have the kind that their type is
+pub of-elements : (k : ℕ) → OfElements (kindOf k)
+unfolding kindOf
+of-elements k = go (ltb k 0x0100)
+  where
+    no-array : NoArray (scalarKind k)
+    no-array = each-scalar NoArray tt k (λ h. (λ d. tt, λ d. tt)) (tt, (tt, (tt, (tt, (tt, (tt, (tt, (tt, tt))))))))
+
+    plain : (x : Kind) → NoArray x → OfElements x
+    plain Unknown h = tt
+    plain (Scalar t) h = tt
+    plain (Array e t) h = absurd h
+
+    array : (e : ℕ) (x : Kind) → scalarKind e ≡ x → OfElements (arrayOf e x)
+    array e Unknown h = tt
+    array e (Scalar t) h = h
+    array e (Array f t) h = tt
+
+    go : (b : Bool) → OfElements (pick b (scalarKind k) (arrayOf (k - 0x0100) (scalarKind (k - 0x0100))))
+    go true = plain (scalarKind k) no-array
+    go false = array (k - 0x0100) (scalarKind (k - 0x0100)) refl
+
+-- ---- a property of the type that a kind is about, if it says any
 abbrev pub Said : (ValueType → Type 0) → Kind → Type 0
 Said P Unknown = Unit
 Said P (Scalar t) = P t
 Said P (Array element t) = P t
 
-abbrev integer : (width : ℕ) (signed : Bool) → ValueType
-integer w signed = record { family = Integer; width = w; signed = signed }
+said-array : (P : ValueType → Type 0) (e : ℕ) (k : Kind) → Said P k → Said P (arrayOf e k)
+said-array P e Unknown h = h
+said-array P e (Scalar t) h = h
+said-array P e (Array f t) h = tt
 
-abbrev pub Each : (ValueType → Type 0) → List Numbered → Type 0
-Each P [] = Unit
-Each P (n ∷ ns) = Said P (n .says) × Each P ns
-
-module _ (P : ValueType → Type 0) where
-  picked : (b : Bool) (k j : Kind) → Said P k → Said P j → Said P (pick b k j)
-  picked true k j h g = h
-  picked false k j h g = g
-
-  said-find : (n : ℕ) (ns : List Numbered) → Each P ns → Said P (find n ns)
-  said-find n [] h = tt
-  said-find n (m ∷ ns) h = picked (eqb n (m .number)) (m .says) (find n ns) (h .0) (said-find n ns (h .1))
-
-  said-array : (e : ℕ) (k : Kind) → Said P k → Said P (arrayOf e k)
-  said-array e Unknown h = h
-  said-array e (Scalar t) h = h
-  said-array e (Array f t) h = tt
-
-  -- of the integers, by the first hex digit and the width
-  abbrev Integers : (digit width : ℕ) → Type 0
-  Integers d w = isWidth w ≡ true → (d ≡ 1 → P (integer w false)) × (d ≡ 2 → P (integer w true))
-
-  said-integer : (d w : ℕ) → Integers d w → Said P (integerKind d w)
-  unfolding integerKind
-  said-integer d w i = go (isWidth w) refl
-    where
-      signed : (b : Bool) → eqb d 2 ≡ b → isWidth w ≡ true → Said P (pick b (Scalar (integer w true)) Unknown)
-      signed true f e = (i e) .1 (eqb-true d 2 f)
-      signed false f e = tt
-
-      either : (b : Bool) → eqb d 1 ≡ b → isWidth w ≡ true → Said P (pick b (Scalar (integer w false)) (pick (eqb d 2) (Scalar (integer w true)) Unknown))
-      either true f e = (i e) .0 (eqb-true d 1 f)
-      either false f e = signed (eqb d 2) refl e
-
-      go : (b : Bool) → isWidth w ≡ b → Said P (pick b (integerOf d w) Unknown)
-      go true e = either (eqb d 1) refl e
-      go false e = tt
-
-  pub said-scalar : (n : ℕ) → Integers (n / 16) (n % 16) → Each P types → Said P (scalarKind n)
-  unfolding scalarKind
-  said-scalar n i h = picked (ltb n 0x0010) (find n types) (integerKind (n / 16) (n % 16)) (said-find n types h) (said-integer (n / 16) (n % 16) i)
-
-  pub said-kind : ((n : ℕ) → Integers (n / 16) (n % 16)) → Each P types → (k : ℕ) → Said P (kindOf k)
-  unfolding kindOf
-  said-kind i h k =
-      picked (ltb k 0x0100) (scalarKind k) (arrayOf (k - 0x0100) (scalarKind (k - 0x0100))) (said-scalar k (i k) h)
-      (said-array (k - 0x0100) (scalarKind (k - 0x0100)) (said-scalar (k - 0x0100) (i (k - 0x0100)) h))
+pub said-kind : (P : ValueType → Type 0) → ((n : ℕ) → Said P (scalarKind n)) → (k : ℕ) → Said P (kindOf k)
+unfolding kindOf
+said-kind P h k =
+    picked (Said P) tt (ltb k 0x0100) (scalarKind k) (arrayOf (k - 0x0100) (scalarKind (k - 0x0100))) (h k)
+    (said-array P (k - 0x0100) (scalarKind (k - 0x0100)) (h (k - 0x0100)))
 
 -- the widths of numbers
 abbrev pub SizedBy : Family → ℕ → Type 0
@@ -98,8 +129,10 @@ width-sized w h = go (eqb w 1) refl (eqb w 2) refl (eqb w 4) refl h
     go false e false f false g h = let z = eqb-true w 8 h in (omega arith, omega arith)
 
 pub sized : (k : ℕ) → Said Sized (kindOf k)
-sized =
-    said-kind Sized (λ n h. (λ d. width-sized (n % 16) h, λ d. width-sized (n % 16) h)) (tt, (inl refl, (inr refl, (tt, (tt, (tt, (tt, (tt, tt))))))))
+sized = said-kind Sized (λ n. each-scalar (Said Sized) tt n (λ h. (λ d. width-sized (n % 16) h, λ d. width-sized (n % 16) h)) others)
+  where
+    others : Each (Said Sized) types
+    others = (tt, (inl refl, (inr refl, (tt, (tt, (tt, (tt, (tt, tt))))))))
 
 -- 02 Q-2 "the last hex digit is the body's bytes": so no other numbers than its eight are integers'
 abbrev Digits : (number : ℕ) → ValueType → Type 0
@@ -110,5 +143,5 @@ apart f n e = eqb-false (row f) (row Integer) n (ap row e)
 
 pub integer-digits : (n : ℕ) → Said (Digits n) (scalarKind n)
 integer-digits n =
-    said-scalar (Digits n) n (λ h. (λ d e. (omega (arith, mod-add-div n 16), h), λ d e. (omega (arith, mod-add-div n 16), h)))
+    each-scalar (Said (Digits n)) tt n (λ h. (λ d e. (omega (arith, mod-add-div n 16), h), λ d e. (omega (arith, mod-add-div n 16), h)))
     (λ e. absurd (apart Boolean refl e), (λ e. absurd (apart Real refl e), (λ e. absurd (apart Real refl e), (λ e. absurd (apart Text refl e), (λ e. absurd (apart Char16 refl e), (λ e. absurd (apart Octets refl e), (λ e. absurd (apart Datetime refl e), (λ e. absurd (apart Reference refl e), tt))))))))

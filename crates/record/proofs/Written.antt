@@ -1,16 +1,17 @@
 -- What is written reads back: numbers at every width, and records alone and in front of other bytes.
-use Prim.Native.Nat.{ℕ, zero, suc, _+_, _/_, _^_, _<_}
+use Prim.Native.Nat.{ℕ, zero, suc, _+_, _-_, _/_, _^_, _<_}
 use mathlib.Core.List.{List, _++_}
 use mathlib.Core.Path.{_≡_, refl, sym, ap, _∙_}
 use native.Mathlib.Omega.{arith}
 use native.Mathlib.Nat.{mod-add-div, pow-succ'}
 use lib.ListN.{length, length-append}
 use lib.Seq.{take-append-seam}
+use lib.IntN.{ℤ, pos, negsuc}
 use Rattle.base.specs.Part.{part}
 use Rattle.base.specs.LittleEndian.{unsigned}
 use Rattle.record.specs.declared.read.RecordAt.the-variants.{Whole}
 use Rattle.record.specs.Record.{recordAt, item, records}
-use Rattle.record.specs.Write.{littleEndian, write}
+use Rattle.record.specs.Write.{littleEndian, stored, write}
 use Rattle.record.proofs.Records.{at-whole, records-whole}
 use Rattle.record.proofs.Shift.{whole-same, shift, records-behind}
 
@@ -27,6 +28,11 @@ pub length-written : (width n : ℕ) → length (littleEndian width n) ≡ width
 unfolding littleEndian
 length-written zero n = refl
 length-written (suc width) n = ap suc (length-written width (n / 256))
+
+pub length-stored : (width : ℕ) (z : ℤ) → length (stored width z) ≡ width
+unfolding stored
+length-stored width (pos n) = length-written width n
+length-stored width (negsuc n) = length-written width (256 ^ width - 1 - n)
 
 pub length-write : (kind : ℕ) (b : List ℕ) → length (write kind b) ≡ 4 + length b
 unfolding write littleEndian
