@@ -7,8 +7,6 @@
 #include <stdint.h>
 #include <string.h>
 
-enum { RECORD_CLASS = 0x0200, RECORD_INSTANCE = 0x0300, RECORD_ARRAY = 0x0100 };
-
 /* Bytes that records are put into, one after the other. The buffers here are larger than all that is put into them. */
 typedef struct buffer {
     uint8_t bytes[1024];

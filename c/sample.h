@@ -2,39 +2,40 @@
 #ifndef SAMPLE_H
 #define SAMPLE_H
 
+#include "fql.h"
 #include "record.h"
 
 static inline buffer sample_table(void) {
     buffer table = {{0}, 0};
-    put_text(&table, RECORD_CLASS, "P");
-    put_text(&table, 1, "On");
-    put_text(&table, 3, "Temp");
-    put_text(&table, RECORD_ARRAY | 2, "Dev");
-    put_text(&table, 6, "Name");
-    put_text(&table, 9, "Since");
-    put_text(&table, 5, "R");
+    put_text(&table, FQL_RECORD_CLASS, "P");
+    put_text(&table, FQL_TYPE_BOOLEAN, "On");
+    put_text(&table, FQL_TYPE_SINT64, "Temp");
+    put_text(&table, FQL_TYPE_ARRAY | FQL_TYPE_UINT64, "Dev");
+    put_text(&table, FQL_TYPE_STRING, "Name");
+    put_text(&table, FQL_TYPE_DATETIME, "Since");
+    put_text(&table, FQL_TYPE_REAL64, "R");
     return table;
 }
 
 static inline buffer sample_instance(int on) {
     buffer elements = {{0}, 0}, instance = {{0}, 0};
-    put_word(&elements, 2, 3);
-    put_word(&elements, 2, 14);
-    put_record(&instance, 1, (uint8_t[]){on != 0}, 1);
-    put_word(&instance, 3, (uint64_t)-5);
-    put_record(&instance, RECORD_ARRAY | 2, elements.bytes, elements.length);
-    put_text(&instance, 6, "FAN_2");
-    put_text(&instance, 9, "20051003112233.000000+000");
-    put_word(&instance, 5, 0x3fe0000000000000); /* 0.5 */
+    put_word(&elements, FQL_TYPE_UINT64, 3);
+    put_word(&elements, FQL_TYPE_UINT64, 14);
+    put_record(&instance, FQL_TYPE_BOOLEAN, (uint8_t[]){on != 0}, 1);
+    put_word(&instance, FQL_TYPE_SINT64, (uint64_t)-5);
+    put_record(&instance, FQL_TYPE_ARRAY | FQL_TYPE_UINT64, elements.bytes, elements.length);
+    put_text(&instance, FQL_TYPE_STRING, "FAN_2");
+    put_text(&instance, FQL_TYPE_DATETIME, "20051003112233.000000+000");
+    put_word(&instance, FQL_TYPE_REAL64, 0x3fe0000000000000); /* 0.5 */
     return instance;
 }
 
 /* An instance that is on, one that is off, and an empty one, which doesn't conform. */
 static inline buffer sample_run(void) {
     buffer run = {{0}, 0}, on = sample_instance(1), off = sample_instance(0);
-    put_record(&run, RECORD_INSTANCE, on.bytes, on.length);
-    put_record(&run, RECORD_INSTANCE, off.bytes, off.length);
-    put_record(&run, RECORD_INSTANCE, "", 0);
+    put_record(&run, FQL_RECORD_INSTANCE, on.bytes, on.length);
+    put_record(&run, FQL_RECORD_INSTANCE, off.bytes, off.length);
+    put_record(&run, FQL_RECORD_INSTANCE, "", 0);
     return run;
 }
 

@@ -99,7 +99,7 @@ static void refusals_of_queries(void) {
 
 static void refusals_of_tables_and_instances(void) {
     buffer table = sample_table(), twice = table, cut = table, empty = {{0}, 0}, instance = sample_instance(1);
-    put_text(&twice, 6, "TEMP");
+    put_text(&twice, FQL_TYPE_STRING, "TEMP");
     cut.length -= 1;
     EXPECT(is_refusal(check("On = TRUE", &twice), FQL_NAME_TWICE, 48));
     EXPECT(is_refusal(check("On = TRUE", &cut), FQL_TABLE, 43));
@@ -148,7 +148,7 @@ static void marks_of_a_refused_call(void) {
     buffer table = sample_table(), run = sample_run(), broken = run, other = run, empty = {{0}, 0};
     uint8_t marks[4] = {7, 7, 7, 7};
     broken.length -= 1;
-    put_record(&other, 0x0301, "", 0);
+    put_record(&other, FQL_RECORD_INSTANCE + 1, "", 0);
     EXPECT(run.length == 202);
     EXPECT(is_unmarked(mark("On = TRUE AND", &table, &run, marks, 4), FQL_GRAMMAR, 13, marks, 4));
     EXPECT(is_unmarked(mark("On = TRUE", &empty, &run, marks, 4), FQL_TABLE, 0, marks, 4));

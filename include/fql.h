@@ -19,6 +19,31 @@
 extern "C" {
 #endif
 
+/* The kinds of records other than those of properties and values. */
+enum fql_record {
+    FQL_RECORD_NULL = 0,         /* in an instance or an array, in place of a value; its body is empty */
+    FQL_RECORD_CLASS = 0x0200,   /* a table's first record; its body is the class name */
+    FQL_RECORD_INSTANCE = 0x0300 /* each record of a run; its body is an instance */
+};
+
+/* The types, with the bodies of their values. A table has a record for each property after that of the class: its kind
+   is the type, plus FQL_TYPE_ARRAY for an array, and its body is the name. An instance has a record for each property
+   in the table's order: of the same kind, with the value as body, or NULL. An array's body is a record for each
+   element: of the type without FQL_TYPE_ARRAY, or NULL. */
+enum fql_type {
+    FQL_TYPE_BOOLEAN = 1,    /* one byte, 0 or 1 */
+    FQL_TYPE_UINT64 = 2,     /* 8 bytes, least byte first */
+    FQL_TYPE_SINT64 = 3,     /* the same in two's complement */
+    FQL_TYPE_REAL32 = 4,     /* 4 bytes, IEEE 754, least byte first */
+    FQL_TYPE_REAL64 = 5,     /* 8 bytes, likewise */
+    FQL_TYPE_STRING = 6,     /* UTF-8 */
+    FQL_TYPE_CHAR16 = 7,     /* 2 bytes, least byte first: a character up to U+FFFF, no surrogate */
+    FQL_TYPE_OCTETS = 8,     /* any bytes */
+    FQL_TYPE_DATETIME = 9,   /* 25 bytes: a timestamp or an interval in the text form of DSP0004 */
+    FQL_TYPE_REFERENCE = 10, /* UTF-8 */
+    FQL_TYPE_ARRAY = 0x0100  /* what an array adds to the type of its elements */
+};
+
 /* The numbers of refusals, in the order in which the causes are tried. Number 0 means that nothing is refused. */
 enum fql_cause {
     FQL_TABLE = 2,            /* the table is longer than 8,192 bytes, or a record is malformed or has a bad name */

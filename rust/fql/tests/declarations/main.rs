@@ -4,11 +4,12 @@ mod declared;
 mod tokens;
 
 use declared::{of_c, of_rattle, of_rust, Declared};
-use fql::Cause;
+use fql::{record, Cause};
 
 const SOURCE: &str = include_str!("../../../../crates/fql_export/src/lib.rt");
 const HEADER: &str = include_str!("../../../../include/fql.h");
 const RUST: &str = include_str!("../../src/raw.rs");
+const TYPES: &str = include_str!("../../src/types.rs");
 
 fn compare(source: &str, other: Result<Declared, String>) -> Result<(), String> {
     let (source, other) = (of_rattle(source)?, other?);
@@ -97,12 +98,27 @@ fn a_changed_source_is_noticed() {
     }
 }
 
+/// `12` or `0x0C`.
+fn number(text: &str) -> u64 {
+    let parsed = match text.strip_prefix("0x") {
+        Some(digits) => u64::from_str_radix(digits, 16),
+        None => text.parse(),
+    };
+    parsed.unwrap_or_else(|_| panic!("{text} is no number"))
+}
+
 /// The header's constants, `FQL_NAME = number`.
 fn constants(text: &str) -> Vec<(String, u64)> {
     let tokens = tokens::tokens(text);
-    let constant =
-        |w: &[String]| (w[0].starts_with("FQL_") && w[1] == "=").then(|| (w[0].clone(), w[2].parse().unwrap()));
+    let constant = |w: &[String]| (w[0].starts_with("FQL_") && w[1] == "=").then(|| (w[0].clone(), number(&w[2])));
     tokens.windows(3).filter_map(constant).collect()
+}
+
+/// The wrapper's types, `pub const NAME: u16 = number`, by the names that the header gives them.
+fn types() -> Vec<(String, u64)> {
+    let tokens = tokens::tokens(TYPES);
+    let constant = |w: &[String]| (w[1] == "const").then(|| (format!("FQL_TYPE_{}", w[2]), number(&w[6])));
+    tokens.windows(7).filter_map(constant).collect()
 }
 
 /// `NameTwice` as `FQL_NAME_TWICE`.
@@ -114,10 +130,24 @@ fn constant_of(cause: Cause) -> String {
 
 #[test]
 fn the_header_s_numbers_are_those_of_the_wrapper() {
+    let own = |(name, number): (&str, u16)| (name.to_owned(), u64::from(number));
+    let records = [
+        ("FQL_RECORD_NULL", record::NULL),
+        ("FQL_RECORD_CLASS", record::CLASS),
+        ("FQL_RECORD_INSTANCE", record::INSTANCE),
+    ];
+    let types = types().into_iter().chain([own(("FQL_TYPE_ARRAY", record::ARRAY))]);
     let causes = Cause::ALL.into_iter().map(|cause| (constant_of(cause), cause.number()));
     let marks = [("FQL_EXCLUDED", fql::EXCLUDED), ("FQL_INCLUDED", fql::INCLUDED), ("FQL_FAILED", fql::FAILED)];
-    let marks = marks.map(|(name, byte)| (name.to_owned(), u64::from(byte)));
+    let marks = marks.map(|(name, byte)| (name, u16::from(byte)));
     let sources = [("FQL_NOTHING", 0), ("FQL_OF_QUERY", 1), ("FQL_OF_TABLE", 2)];
-    let sources = sources.map(|(name, number)| (name.to_owned(), number));
-    assert_eq!(constants(HEADER), causes.chain(marks).chain(sources).collect::<Vec<_>>());
+    let expected = records.into_iter().map(own).chain(types).chain(causes);
+    let expected = expected.chain(marks.map(own)).chain(sources.map(own));
+    assert_eq!(sorted(constants(HEADER)), sorted(expected.collect()));
+}
+
+/// The order of constants says nothing.
+fn sorted(mut constants: Vec<(String, u64)>) -> Vec<(String, u64)> {
+    constants.sort();
+    constants
 }
