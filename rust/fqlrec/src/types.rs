@@ -1,42 +1,44 @@
-//! The words for the types 1 to 10, and for arrays of them.
+//! The words for the types, and for arrays of them.
 
 use fql::record::ARRAY;
+use fql::types::{BOOLEAN, CHAR16, DATETIME, OCTETS, REAL32, REAL64, REFERENCE, SINT64, STRING, UINT64};
 
 use crate::line::Line;
 use crate::problem::Problem;
 
-const WORDS: [&str; 10] =
-    ["boolean", "unsigned", "signed", "real32", "real64", "string", "char16", "octets", "datetime", "reference"];
+const WORDS: [(&str, u16); 10] = [
+    ("boolean", BOOLEAN),
+    ("unsigned", UINT64),
+    ("signed", SINT64),
+    ("real32", REAL32),
+    ("real64", REAL64),
+    ("string", STRING),
+    ("char16", CHAR16),
+    ("octets", OCTETS),
+    ("datetime", DATETIME),
+    ("reference", REFERENCE),
+];
 
-pub const BOOLEAN: u16 = 1;
-pub const UNSIGNED: u16 = 2;
-pub const SIGNED: u16 = 3;
-pub const REAL32: u16 = 4;
-pub const REAL64: u16 = 5;
-pub const STRING: u16 = 6;
-pub const CHAR16: u16 = 7;
-pub const OCTETS: u16 = 8;
-pub const DATETIME: u16 = 9;
-pub const REFERENCE: u16 = 10;
+fn type_of(word: &str) -> Option<u16> {
+    WORDS.iter().find(|known| known.0 == word).map(|known| known.1)
+}
 
 pub fn is_word(word: &str) -> bool {
-    WORDS.contains(&word)
+    type_of(word).is_some()
 }
 
 /// The words for a property's kind, none if a table can't have it.
 pub fn show(kind: u16) -> Option<String> {
-    let plain = usize::from(kind & !ARRAY);
-    let word = WORDS.get(plain.checked_sub(1)?)?;
+    let (word, _) = WORDS.iter().find(|known| known.1 == kind & !ARRAY)?;
     Some(if kind & ARRAY == 0 { word.to_string() } else { format!("{word}[]") })
 }
 
 pub fn read(line: &mut Line) -> Result<u16, Problem> {
     let start = line.offset();
-    let word = line.word();
-    let Some(number) = WORDS.iter().position(|w| *w == word) else {
-        return Err(line.problem_at(start, format!("a type is needed here: {}", WORDS.join(", "))));
+    let Some(plain) = type_of(line.word()) else {
+        let words = WORDS.map(|known| known.0).join(", ");
+        return Err(line.problem_at(start, format!("a type is needed here: {words}")));
     };
-    let plain = number as u16 + 1;
     if !line.take("[") {
         return Ok(plain);
     }

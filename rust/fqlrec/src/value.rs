@@ -3,11 +3,11 @@
 use std::str::FromStr;
 
 use fql::record::{self, ARRAY, NULL};
+use fql::types::{BOOLEAN, CHAR16, DATETIME, OCTETS, REAL32, REAL64, REFERENCE, SINT64, STRING, UINT64};
 
 use crate::line::Line;
 use crate::problem::Problem;
 use crate::records::expect_short;
-use crate::types::{BOOLEAN, CHAR16, DATETIME, OCTETS, REAL32, REAL64, REFERENCE, SIGNED, STRING, UNSIGNED};
 use crate::{hex, quoted};
 
 /// A property's value as text; none for a record that has no such form: of another kind than the property's, or with a
@@ -35,8 +35,8 @@ fn show_scalar(kind: u16, body: &[u8]) -> Option<String> {
             [1] => Some("TRUE".to_owned()),
             _ => None,
         },
-        UNSIGNED => Some(u64::from_le_bytes(body.try_into().ok()?).to_string()),
-        SIGNED => Some(i64::from_le_bytes(body.try_into().ok()?).to_string()),
+        UINT64 => Some(u64::from_le_bytes(body.try_into().ok()?).to_string()),
+        SINT64 => Some(i64::from_le_bytes(body.try_into().ok()?).to_string()),
         REAL32 => {
             let x = f32::from_le_bytes(body.try_into().ok()?);
             Some(if x.is_finite() { format!("{x:?}") } else { format!("0x{:08X}", x.to_bits()) })
@@ -93,8 +93,8 @@ fn read_scalar(line: &mut Line, kind: u16) -> Result<Vec<u8>, Problem> {
             "FALSE" => Ok(vec![0]),
             _ => Err(line.problem_at(start, "TRUE, FALSE or NULL is needed here".to_owned())),
         },
-        UNSIGNED => Ok(number::<u64>(line, "a whole number from 0 to 18446744073709551615")?.to_le_bytes().to_vec()),
-        SIGNED => {
+        UINT64 => Ok(number::<u64>(line, "a whole number from 0 to 18446744073709551615")?.to_le_bytes().to_vec()),
+        SINT64 => {
             let what = "a whole number from -9223372036854775808 to 9223372036854775807";
             Ok(number::<i64>(line, what)?.to_le_bytes().to_vec())
         }

@@ -1,5 +1,7 @@
 //! What an operator is told of a query, a table and a run.
 
+use fql::record::INSTANCE;
+use fql::types::{BOOLEAN, STRING};
 use fqlrec::{explain, read, Files};
 use reference::cases::run::{random, RunCase};
 use reference::examples::programs;
@@ -104,7 +106,7 @@ fn details(files: &Files) -> String {
 #[test]
 fn records_of_the_table() {
     let with = |tail: &[u8]| Files { table: [&files().table[..], tail].concat(), ..files() };
-    let (temp, unknown) = (write(6, b"TEMP"), write(11, b"x"));
+    let (temp, unknown) = (write(STRING, b"TEMP"), write(11, b"x"));
     assert_eq!(details(&with(&temp)), "table, record 5, at byte 27:\n    TEMP  string\n");
     assert_eq!(details(&with(&unknown)), "table, record 5, at byte 27:\n    record 0x000B 78\n");
     assert_eq!(
@@ -124,10 +126,10 @@ fn records_of_the_run() {
     let with = |tail: &[u8]| Files { run: [&files().run[..], tail].concat(), ..files() };
     let length = files().run.len();
     assert_eq!(
-        details(&with(&write(0x0301, b"x"))),
+        details(&with(&write(INSTANCE + 1, b"x"))),
         format!("run, record 2, at byte {length}:\n    record 0x0301 78\n")
     );
-    let long = details(&with(&write(1, &[0; 1_000])));
+    let long = details(&with(&write(BOOLEAN, &[0; 1_000])));
     assert_eq!(long, format!("run, record 2, at byte {length}:\n    record 0x0001 {}...\n", "0".repeat(86)));
     let too_long = with(&vec![0; 70_000]);
     assert!(refused("On = TRUE", &too_long).starts_with("refused 40 at 65536: "));

@@ -1,5 +1,7 @@
 //! Bytes to text and back give the same bytes, whatever they are; text to bytes and back gives the normal form.
 
+use fql::record::{ARRAY, CLASS, INSTANCE, NULL};
+use fql::types::{BOOLEAN, CHAR16, DATETIME, OCTETS, REAL32, REAL64, REFERENCE, SINT64, STRING, UINT64};
 use fqlrec::{read, show, Files};
 use reference::cases::{self, run};
 use reference::examples::setting::{sample, types};
@@ -16,7 +18,7 @@ fn round_trip(table: &[u8], run: &[u8]) -> String {
 }
 
 fn instance(body: &[u8]) -> Vec<u8> {
-    write(0x0300, body)
+    write(INSTANCE, body)
 }
 
 fn runs(r: &mut Random) {
@@ -72,14 +74,14 @@ fn of_random_bytes() {
 
 /// Each record of the instance, with random bodies of the right and of the wrong length.
 fn values(r: &mut Random) {
-    let kinds = [1, 2, 3, 4, 5, 6, 7, 8, 9, 10];
+    let kinds = [BOOLEAN, UINT64, SINT64, REAL32, REAL64, STRING, CHAR16, OCTETS, DATETIME, REFERENCE];
     for _ in 0..5_000 {
         let kind = r.pick(&kinds);
         let n = r.pick(&[0, 1, 2, 4, 8, 8, 8, 25]);
         let body: Vec<u8> = (0..n).map(|_| if r.chance(2) { r.byte() } else { r.pick(&[0, 1, 0x7f, 0xff]) }).collect();
         let scalar = write(kind, &body);
-        let array = write(kind | 0x0100, &[scalar.clone(), write(0, &[]), scalar.clone()].concat());
-        let table = [write(0x0200, b"P"), write(kind, b"x"), write(kind | 0x0100, b"xs")].concat();
+        let array = write(kind | ARRAY, &[scalar.clone(), write(NULL, &[]), scalar.clone()].concat());
+        let table = [write(CLASS, b"P"), write(kind, b"x"), write(kind | ARRAY, b"xs")].concat();
         round_trip(&table, &instance(&[scalar, array].concat()));
     }
 }
@@ -162,7 +164,7 @@ fn of_cut_files() {
 
 #[test]
 fn of_the_longest_records() {
-    let longest = write(6, "x".repeat(65_531).as_bytes());
-    round_trip(&[write(0x0200, b"P"), write(6, b"S")].concat(), &instance(&longest));
-    round_trip(&write(0xffff, &vec![0xff; 65_535]), &write(1, &vec![1; 65_535]));
+    let longest = write(STRING, "x".repeat(65_531).as_bytes());
+    round_trip(&[write(CLASS, b"P"), write(STRING, b"S")].concat(), &instance(&longest));
+    round_trip(&write(0xffff, &vec![0xff; 65_535]), &write(BOOLEAN, &vec![1; 65_535]));
 }

@@ -1,5 +1,7 @@
 //! Texts with the bytes that they stand for, and with what is wrong with them.
 
+use fql::record::INSTANCE;
+use fql::types::OCTETS;
 use fqlrec::{read, show, Files};
 use reference::examples::setting::{sample, types};
 use reference::record::write;
@@ -76,7 +78,7 @@ instance
 ";
 
 fn instance(body: &[u8]) -> Vec<u8> {
-    write(0x0300, body)
+    write(INSTANCE, body)
 }
 
 #[test]
@@ -176,7 +178,7 @@ fn of_text() {
 fn of_octets() {
     assert_eq!(value("octets", "0x"), b"");
     assert_eq!(value("octets", "0x00fF"), [0, 255]);
-    assert_eq!(value("octets[]", "{0x, 0xAB}"), [write(8, b""), write(8, b"\xab")].concat());
+    assert_eq!(value("octets[]", "{0x, 0xAB}"), [write(OCTETS, b""), write(OCTETS, b"\xab")].concat());
 }
 
 /// Names that are also words of the text.
