@@ -1,11 +1,8 @@
 //! The tables and runs that are measured: deterministic, and the same for every contestant.
 
 use reference::datetime::{parse, Datetime};
+use reference::kind::{ARRAY, BOOLEAN, CLASS, DATETIME, INSTANCE, REAL64, SINT64, STRING, UINT64};
 use reference::record::write;
-
-pub const INSTANCE: u16 = 0x0300;
-const CLASS: u16 = 0x0200;
-const ARRAY: u16 = 0x0100;
 
 /// The values of one instance of the sample class.
 pub struct Values {
@@ -36,7 +33,7 @@ impl Setting {
     }
 
     pub fn new(further: usize, instances: usize) -> Setting {
-        let further_body = write(6, "a string of forty characters, or nearly.".as_bytes()).repeat(further);
+        let further_body = write(STRING, "a string of forty characters, or nearly.".as_bytes()).repeat(further);
         let values: Vec<Values> = (0..instances).map(values).collect();
         let bodies = values.iter().map(|v| write(INSTANCE, &[record(v), further_body.clone()].concat()));
         Setting { table: table(further), run: bodies.collect::<Vec<_>>().concat(), values }
@@ -48,13 +45,20 @@ impl Setting {
 }
 
 pub fn table(further: usize) -> Vec<u8> {
-    let sample = [(1, "On"), (3, "Temp"), (ARRAY | 2, "Dev"), (6, "Name"), (9, "Since"), (5, "R")];
+    let sample = [
+        (BOOLEAN, "On"),
+        (SINT64, "Temp"),
+        (ARRAY | UINT64, "Dev"),
+        (STRING, "Name"),
+        (DATETIME, "Since"),
+        (REAL64, "R"),
+    ];
     let mut out = write(CLASS, b"P");
     for (kind, name) in sample {
         out.extend(write(kind, name.as_bytes()));
     }
     for n in 0..further {
-        out.extend(write(6, format!("Further{n}").as_bytes()));
+        out.extend(write(STRING, format!("Further{n}").as_bytes()));
     }
     out
 }
@@ -73,14 +77,14 @@ fn values(n: usize) -> Values {
 }
 
 fn record(v: &Values) -> Vec<u8> {
-    let dev: Vec<u8> = v.dev.iter().flat_map(|x| write(2, &x.to_le_bytes())).collect();
+    let dev: Vec<u8> = v.dev.iter().flat_map(|x| write(UINT64, &x.to_le_bytes())).collect();
     [
-        write(1, &[u8::from(v.on)]),
-        write(3, &v.temp.to_le_bytes()),
-        write(ARRAY | 2, &dev),
-        write(6, v.name.as_bytes()),
-        write(9, v.since.as_bytes()),
-        write(5, &v.r.to_le_bytes()),
+        write(BOOLEAN, &[u8::from(v.on)]),
+        write(SINT64, &v.temp.to_le_bytes()),
+        write(ARRAY | UINT64, &dev),
+        write(STRING, v.name.as_bytes()),
+        write(DATETIME, v.since.as_bytes()),
+        write(REAL64, &v.r.to_le_bytes()),
     ]
     .concat()
 }

@@ -1,7 +1,8 @@
 //! How the time grows with one size at a time, the others fixed: linear where the last column stays level.
 
 use crate::clock::{measure, Call};
-use crate::data::{Setting, INSTANCE};
+use crate::data::Setting;
+use reference::kind::{CLASS, INSTANCE, STRING};
 use reference::record::write;
 
 pub fn run() {
@@ -30,8 +31,8 @@ fn row(what: &str, units: usize, setting: &Setting, query: &[u8]) {
 }
 
 fn text_row(what: &str, units: usize) {
-    let table = [write(0x0200, b"T"), write(6, b"S")].concat();
-    let run = write(INSTANCE, &write(6, "x".repeat(units).as_bytes()));
+    let table = [write(CLASS, b"T"), write(STRING, b"S")].concat();
+    let run = write(INSTANCE, &write(STRING, "x".repeat(units).as_bytes()));
     let mut marks = [0];
     let call: Call = Box::new(|| fql::mark(b"S LIKE '[a-z]*'", &table, &run, &mut marks).unwrap().included);
     print_row(what, units, measure(call));

@@ -2,8 +2,8 @@
 //! over a run of instances with one string each.
 
 use crate::clock::{compare, Call};
-use crate::data::INSTANCE;
 use crate::re2::Pattern;
+use reference::kind::{CLASS, INSTANCE, STRING};
 use reference::record::write;
 
 const TEXTS: usize = 64;
@@ -21,8 +21,8 @@ pub fn run() {
 
 fn compare_on(pattern: &str, length: usize) {
     let texts: Vec<String> = (0..TEXTS).map(|n| text(pattern, n, length)).collect();
-    let table = [write(0x0200, b"T"), write(6, b"S")].concat();
-    let run: Vec<u8> = texts.iter().flat_map(|t| write(INSTANCE, &write(6, t.as_bytes()))).collect();
+    let table = [write(CLASS, b"T"), write(STRING, b"S")].concat();
+    let run: Vec<u8> = texts.iter().flat_map(|t| write(INSTANCE, &write(STRING, t.as_bytes()))).collect();
     let query = format!("S LIKE '{pattern}'").into_bytes();
     let compiled = Pattern::compile(pattern);
     let mut marks = vec![0; TEXTS];

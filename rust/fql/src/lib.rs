@@ -7,26 +7,27 @@
 //!
 //! ```
 //! use fql::record::{self, write};
+//! use fql::types::{BOOLEAN, DATETIME, REAL64, SINT64, STRING, UINT64};
 //! use fql::{Answer, Cause, Refusal, Verdict};
 //!
 //! let table = [
 //!     write(record::CLASS, b"P"),
-//!     write(1, b"On"),
-//!     write(3, b"Temp"),
-//!     write(record::ARRAY | 2, b"Dev"),
-//!     write(6, b"Name"),
-//!     write(9, b"Since"),
-//!     write(5, b"R"),
+//!     write(BOOLEAN, b"On"),
+//!     write(SINT64, b"Temp"),
+//!     write(record::ARRAY | UINT64, b"Dev"),
+//!     write(STRING, b"Name"),
+//!     write(DATETIME, b"Since"),
+//!     write(REAL64, b"R"),
 //! ]
 //! .concat();
-//! let elements = [write(2, &3u64.to_le_bytes()), write(2, &14u64.to_le_bytes())].concat();
+//! let elements = [write(UINT64, &3u64.to_le_bytes()), write(UINT64, &14u64.to_le_bytes())].concat();
 //! let instance = [
-//!     write(1, &[1]),
-//!     write(3, &(-5i64).to_le_bytes()),
-//!     write(record::ARRAY | 2, &elements),
-//!     write(6, b"FAN_2"),
-//!     write(9, b"20051003112233.000000+000"),
-//!     write(5, &0.5f64.to_le_bytes()),
+//!     write(BOOLEAN, &[1]),
+//!     write(SINT64, &(-5i64).to_le_bytes()),
+//!     write(record::ARRAY | UINT64, &elements),
+//!     write(STRING, b"FAN_2"),
+//!     write(DATETIME, b"20051003112233.000000+000"),
+//!     write(REAL64, &0.5f64.to_le_bytes()),
 //! ]
 //! .concat();
 //!
@@ -59,9 +60,9 @@ pub use refusal::{Cause, Refusal};
 /// of them with the same cause and place.
 ///
 /// ```
-/// use fql::{record, Cause, Refusal};
+/// use fql::{record, types, Cause, Refusal};
 ///
-/// let table = [record::write(record::CLASS, b"P"), record::write(1, b"On")].concat();
+/// let table = [record::write(record::CLASS, b"P"), record::write(types::BOOLEAN, b"On")].concat();
 /// assert_eq!(fql::check(b"On = TRUE", &table), Ok(()));
 /// assert_eq!(fql::check(b"On = TRUE AND", &table), Err(Refusal { cause: Cause::Grammar, place: 13 }));
 /// ```
@@ -75,12 +76,12 @@ pub fn check(query: &[u8], table: &[u8]) -> Result<(), Refusal> {
 /// Whether the query includes the instance, and in how many steps.
 ///
 /// ```
-/// use fql::{record, Answer, Cause, Refusal, Verdict};
+/// use fql::{record, types, Answer, Cause, Refusal, Verdict};
 ///
-/// let table = [record::write(record::CLASS, b"P"), record::write(6, b"Name")].concat();
+/// let table = [record::write(record::CLASS, b"P"), record::write(types::STRING, b"Name")].concat();
 /// let filter = b"Name NOT LIKE 'FAN_.*'";
 ///
-/// let answer = fql::evaluate(filter, &table, &record::write(6, b"FAN_2"));
+/// let answer = fql::evaluate(filter, &table, &record::write(types::STRING, b"FAN_2"));
 /// assert_eq!(answer, Ok(Answer { verdict: Verdict::Excluded, steps: 6 }));
 /// assert_eq!(fql::evaluate(filter, &table, b""), Err(Refusal { cause: Cause::Instance, place: 0 }));
 /// ```
@@ -105,10 +106,10 @@ pub fn evaluate(query: &[u8], table: &[u8], instance: &[u8]) -> Result<Answer, R
 /// Marks beyond the run's instances keep their values, and a refused call leaves all as they were.
 ///
 /// ```
-/// use fql::{record, Cause, Refusal, Totals};
+/// use fql::{record, types, Cause, Refusal, Totals};
 ///
-/// let table = [record::write(record::CLASS, b"P"), record::write(1, b"On")].concat();
-/// let instances = [record::write(1, &[1]), record::write(1, &[0]), vec![]];
+/// let table = [record::write(record::CLASS, b"P"), record::write(types::BOOLEAN, b"On")].concat();
+/// let instances = [record::write(types::BOOLEAN, &[1]), record::write(types::BOOLEAN, &[0]), vec![]];
 /// let run = instances.map(|body| record::write(record::INSTANCE, &body)).concat();
 ///
 /// let mut marks = [7; 4];
@@ -147,9 +148,9 @@ pub fn mark(query: &[u8], table: &[u8], run: &[u8], marks: &mut [u8]) -> Result<
 /// of the query for the others from 1 to 25.
 ///
 /// ```
-/// use fql::{record, FaultText};
+/// use fql::{record, types, FaultText};
 ///
-/// let table = [record::write(record::CLASS, b"P"), record::write(1, b"On")].concat();
+/// let table = [record::write(record::CLASS, b"P"), record::write(types::BOOLEAN, b"On")].concat();
 /// let query = b"On = TRUE OR Zed = 1";
 /// let refusal = fql::check(query, &table).unwrap_err();
 ///

@@ -26,7 +26,9 @@ pub struct Record<'a> {
 /// One record as bytes.
 ///
 /// ```
-/// assert_eq!(fql::record::write(6, b"ab"), [2, 0, 6, 0, b'a', b'b']);
+/// use fql::{record, types};
+///
+/// assert_eq!(record::write(types::STRING, b"ab"), [2, 0, 6, 0, b'a', b'b']);
 /// ```
 ///
 /// # Panics
@@ -40,8 +42,11 @@ pub fn write(kind: u16, body: &[u8]) -> Vec<u8> {
 /// The whole records from the start on, and what is left: bytes that are no whole record.
 ///
 /// ```
-/// let (records, rest) = fql::record::read(&[1, 0, 1, 0, 7, 9, 9]);
-/// assert_eq!(records, [fql::record::Record { start: 0, kind: 1, body: &[7] }]);
+/// use fql::record::{self, Record};
+/// use fql::types;
+///
+/// let (records, rest) = record::read(&[1, 0, 1, 0, 7, 9, 9]);
+/// assert_eq!(records, [Record { start: 0, kind: types::BOOLEAN, body: &[7] }]);
 /// assert_eq!(rest, [9, 9]);
 /// ```
 pub fn read(bytes: &[u8]) -> (Vec<Record<'_>>, &[u8]) {

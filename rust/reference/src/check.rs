@@ -1,12 +1,13 @@
 //! The check of a query: the one refusal that comes first, in the order of 01's list of causes.
 
+use crate::kind::is_array;
 use crate::literal::{self, NO_DATETIME, OUT_OF_RANGE};
 use crate::pattern::Pattern;
 use crate::record::Table;
 use crate::refusal::{require, Refusal};
 use crate::syntax::{self, Comparison, Operation, Path, Quantifier, Query, Right};
 use crate::token::{string, Kind, Operator, Token, Word};
-use crate::value::{is_array, Row};
+use crate::value::Row;
 
 pub fn check(query: &[u8], table: &[u8]) -> Result<(), Refusal> {
     read(query, table).map(|_| ())

@@ -1,8 +1,9 @@
 //! The values of an instance, one slot for each property of the table (01, "Records").
 
+use crate::kind::{is_array, NULL};
 use crate::record::{check_instance, read, Record, Table};
 use crate::refusal::Refusal;
-use crate::value::{is_array, Value};
+use crate::value::Value;
 
 #[derive(Clone, Debug, PartialEq)]
 pub enum Slot {
@@ -25,7 +26,7 @@ pub fn decode(table: &Table, instance: &[u8]) -> Result<Vec<Slot>, Refusal> {
 fn slot(kind: u16, record: &Record) -> Slot {
     match (is_array(kind), record.kind) {
         (false, _) => Slot::Scalar(Value::decode(record.kind, record.body)),
-        (true, 0) => Slot::Array(None),
+        (true, NULL) => Slot::Array(None),
         (true, _) => {
             let (elements, _) = read(record.body);
             Slot::Array(Some(elements.iter().map(|e| Value::decode(e.kind, e.body)).collect()))

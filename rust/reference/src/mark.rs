@@ -2,6 +2,7 @@
 
 use crate::check::check;
 use crate::evaluate::evaluate;
+use crate::kind::INSTANCE;
 use crate::record::read;
 use crate::refusal::{require, Refusal};
 
@@ -15,7 +16,7 @@ pub struct Totals {
 /// The instances of a run, or 40 at its first record that isn't whole or is of another kind.
 pub fn instances(run: &[u8]) -> Result<Vec<&[u8]>, Refusal> {
     let (records, broken) = read(run);
-    let other = records.iter().find(|record| record.kind != 0x0300).map(|record| record.start);
+    let other = records.iter().find(|record| record.kind != INSTANCE).map(|record| record.start);
     match other.or(broken) {
         Some(start) => Err(Refusal { number: 40, place: start as u64 }),
         None => Ok(records.iter().map(|record| record.body).collect()),

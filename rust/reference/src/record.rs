@@ -1,6 +1,10 @@
 //! Records, tables and instances, read with the standard library's slices.
 
 use crate::datetime;
+use crate::kind::{
+    is_of_a_table, type_of, BOOLEAN, CHAR16, CLASS, DATETIME, NULL, OCTETS, REAL32, REAL64, REFERENCE, SINT64, STRING,
+    UINT64,
+};
 
 pub const LENGTH_OF_TABLE: usize = 8_192;
 pub const LENGTH_OF_INSTANCE: usize = 65_535;
@@ -49,10 +53,6 @@ pub fn is_reserved(bytes: &[u8]) -> bool {
     words.iter().any(|w| bytes.eq_ignore_ascii_case(w.as_bytes()))
 }
 
-pub fn is_kind(kind: u16) -> bool {
-    matches!(kind, 1..=10 | 0x0101..=0x010a)
-}
-
 #[derive(Clone, Debug)]
 pub struct Property {
     pub name: Vec<u8>,
@@ -72,12 +72,12 @@ impl Table {
         }
         let (records, broken) = read(bytes);
         let class = match records.first() {
-            Some(r) if r.kind == 0x0200 && is_name(r.body) && !is_reserved(r.body) => r.body.to_vec(),
+            Some(r) if r.kind == CLASS && is_name(r.body) && !is_reserved(r.body) => r.body.to_vec(),
             _ => return Err((2, 0)),
         };
         let mut properties: Vec<Property> = Vec::new();
         for r in &records[1..] {
-            if properties.len() == 128 || !is_kind(r.kind) || !is_name(r.body) {
+            if properties.len() == 128 || !is_of_a_table(r.kind) || !is_name(r.body) {
                 return Err((2, r.start as u64));
             }
             if properties.iter().any(|p| p.name.eq_ignore_ascii_case(r.body)) {
@@ -92,7 +92,7 @@ impl Table {
     }
 
     pub fn write(&self) -> Vec<u8> {
-        let class = write(0x0200, &self.class);
+        let class = write(CLASS, &self.class);
         self.properties.iter().fold(class, |out, p| [out, write(p.kind, &p.name)].concat())
     }
 
@@ -105,23 +105,23 @@ impl Table {
 
 fn is_value(kind: u16, body: &[u8]) -> bool {
     match kind {
-        1 => matches!(body, [0] | [1]),
-        2 | 3 | 5 => body.len() == 8,
-        4 => body.len() == 4,
-        6 | 10 => std::str::from_utf8(body).is_ok(),
-        7 => body.len() == 2 && char::from_u32(u32::from(u16::from_le_bytes([body[0], body[1]]))).is_some(),
-        8 => true,
-        9 => datetime::parse(body).is_some(),
+        BOOLEAN => matches!(body, [0] | [1]),
+        UINT64 | SINT64 | REAL64 => body.len() == 8,
+        REAL32 => body.len() == 4,
+        STRING | REFERENCE => std::str::from_utf8(body).is_ok(),
+        CHAR16 => body.len() == 2 && char::from_u32(u32::from(u16::from_le_bytes([body[0], body[1]]))).is_some(),
+        OCTETS => true,
+        DATETIME => datetime::parse(body).is_some(),
         _ => {
             let (elements, broken) = read(body);
-            let fits = |r: &Record| is_slot(kind & 0xff, r);
+            let fits = |r: &Record| is_slot(type_of(kind), r);
             broken.is_none() && elements.len() <= 256 && elements.iter().all(fits)
         }
     }
 }
 
 fn is_slot(kind: u16, r: &Record) -> bool {
-    (r.kind == 0 && r.body.is_empty()) || (r.kind == kind && is_value(kind, r.body))
+    (r.kind == NULL && r.body.is_empty()) || (r.kind == kind && is_value(kind, r.body))
 }
 
 /// The refusal of an instance under a table without faults, if it doesn't conform.

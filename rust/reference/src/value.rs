@@ -1,5 +1,8 @@
 //! Values, the rows of types that may meet, and how two values compare (01, "Kinds" and "Meaning").
 
+use crate::kind::{
+    type_of, BOOLEAN, CHAR16, DATETIME, NULL, OCTETS, REAL32, REAL64, REFERENCE, SINT64, STRING, UINT64,
+};
 use std::cmp::Ordering;
 
 use crate::datetime::{self, Datetime};
@@ -30,21 +33,17 @@ pub enum Row {
     Reference,
 }
 
-pub fn is_array(kind: u16) -> bool {
-    kind & 0x0100 != 0
-}
-
 impl Row {
     /// The row of a property's kind, an array's being that of its elements.
     pub fn of(kind: u16) -> Row {
-        match kind & 0x00ff {
-            1 => Row::Truth,
-            2 | 3 => Row::Integer,
-            4 | 5 => Row::Real,
-            6 | 7 => Row::Text,
-            8 => Row::Octets,
-            9 => Row::Datetime,
-            10 => Row::Reference,
+        match type_of(kind) {
+            BOOLEAN => Row::Truth,
+            UINT64 | SINT64 => Row::Integer,
+            REAL32 | REAL64 => Row::Real,
+            STRING | CHAR16 => Row::Text,
+            OCTETS => Row::Octets,
+            DATETIME => Row::Datetime,
+            REFERENCE => Row::Reference,
             other => panic!("no table has the type {other}"),
         }
     }
@@ -58,19 +57,19 @@ impl Value {
     /// The value of a conforming body of this type.
     pub fn decode(kind: u16, body: &[u8]) -> Value {
         match kind {
-            0 => Value::Null,
-            1 => Value::Truth(body[0] == 1),
-            2 => Value::Integer(i128::from(u64::from_le_bytes(body.try_into().unwrap()))),
-            3 => Value::Integer(i128::from(i64::from_le_bytes(body.try_into().unwrap()))),
-            4 => Value::Real(f64::from(f32::from_le_bytes(body.try_into().unwrap()))),
-            5 => Value::Real(f64::from_le_bytes(body.try_into().unwrap())),
-            6 => Value::Text(String::from_utf8(body.to_vec()).unwrap()),
-            7 => {
+            NULL => Value::Null,
+            BOOLEAN => Value::Truth(body[0] == 1),
+            UINT64 => Value::Integer(i128::from(u64::from_le_bytes(body.try_into().unwrap()))),
+            SINT64 => Value::Integer(i128::from(i64::from_le_bytes(body.try_into().unwrap()))),
+            REAL32 => Value::Real(f64::from(f32::from_le_bytes(body.try_into().unwrap()))),
+            REAL64 => Value::Real(f64::from_le_bytes(body.try_into().unwrap())),
+            STRING => Value::Text(String::from_utf8(body.to_vec()).unwrap()),
+            CHAR16 => {
                 let unit = u16::from_le_bytes(body.try_into().unwrap());
                 Value::Text(char::from_u32(u32::from(unit)).unwrap().to_string())
             }
-            8 | 10 => Value::Bytes(body.to_vec()),
-            9 => Value::Datetime(datetime::parse(body).unwrap()),
+            OCTETS | REFERENCE => Value::Bytes(body.to_vec()),
+            DATETIME => Value::Datetime(datetime::parse(body).unwrap()),
             other => panic!("no scalar has the kind {other}"),
         }
     }

@@ -3,6 +3,7 @@
 
 use reference::examples::setting::{array, null, types, unsigned};
 use reference::examples::Setting;
+use reference::kind::UINT64;
 
 fn bound(setting: &Setting, query: &str) -> u64 {
     reference::bound(query.as_bytes(), &setting.table(), &setting.instance()).unwrap()
@@ -47,6 +48,6 @@ fn of_null() {
 fn of_several_comparisons() {
     assert_eq!(bound(&types(), "U = 5 OR S LIKE 'x'"), 7);
     assert_eq!(bound(&types(), "(U = 6 AND Us = {3}) OR (ANY Us = 3 AND S LIKE 'x')"), 13);
-    let many = types().with("Us", array(2, &vec![unsigned(1); 256]));
+    let many = types().with("Us", array(UINT64, &vec![unsigned(1); 256]));
     assert_eq!(bound(&many, "ANY Us = 1 OR Us = {}"), 514);
 }

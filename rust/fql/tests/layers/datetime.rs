@@ -4,6 +4,7 @@ use std::cmp::Ordering;
 use std::sync::LazyLock;
 
 use fql::record::write;
+use fql::types::DATETIME;
 use reference::datetime::parse;
 use reference::random::{for_each_seed, Random};
 
@@ -12,7 +13,6 @@ use crate::calendar::{days, interval, timestamp, timestamp_at, Date};
 use crate::quoted::quoted;
 use crate::seen::Seen;
 
-const DATETIME: u16 = 9;
 const DAY: i64 = 86_400_000_000;
 const MOST_DAYS: i64 = 99_999_999;
 

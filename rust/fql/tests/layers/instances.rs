@@ -1,6 +1,7 @@
 //! Instances beside a reader over the standard library's slices: 31 with its place, and where each record starts.
 
 use fql::record::{write, ARRAY, NULL};
+use fql::types::{BOOLEAN, CHAR16, DATETIME, OCTETS, REAL32, REFERENCE, STRING};
 use reference::random::{for_each_seed, Random};
 use reference::record::{check_instance, read, Property, Record, Table};
 
@@ -10,12 +11,12 @@ use crate::tables::{asks_for_null, random_table};
 fn body(r: &mut Random, kind: u16) -> Vec<u8> {
     let word = r.word().to_le_bytes();
     match kind {
-        1 => vec![word[0] % 2],
-        4 => word[..4].to_vec(),
-        6 | 10 => r.pick(&["", "a", "FAN_2", "é𝄞\0"]).as_bytes().to_vec(),
-        7 => word[..2].to_vec(),
-        8 => word[..r.below(9)].to_vec(),
-        9 => {
+        BOOLEAN => vec![word[0] % 2],
+        REAL32 => word[..4].to_vec(),
+        STRING | REFERENCE => r.pick(&["", "a", "FAN_2", "é𝄞\0"]).as_bytes().to_vec(),
+        CHAR16 => word[..2].to_vec(),
+        OCTETS => word[..r.below(9)].to_vec(),
+        DATETIME => {
             let texts = ["20051003112233.000000+000", "00000229000000.000000-999", "99999999235959.999999:000"];
             // A day that isn't there.
             let text = if r.chance(4) { "19000229000000.000000+000" } else { r.pick(&texts) };
@@ -32,7 +33,7 @@ fn record(r: &mut Random, kind: u16) -> Vec<u8> {
     if kind & ARRAY == 0 {
         return write(kind, &body(r, kind));
     }
-    let elements: Vec<u8> = (0..r.below(4)).flat_map(|_| record(r, kind & 0x00ff)).collect();
+    let elements: Vec<u8> = (0..r.below(4)).flat_map(|_| record(r, kind & !ARRAY)).collect();
     write(kind, &elements)
 }
 

@@ -1,13 +1,12 @@
 //! Integers in values and in literals, compared as whole numbers: beside the language's own, in 128 bits.
 
 use fql::record::write;
+use fql::types::{SINT64, UINT64};
 use reference::random::{for_each_seed, Random};
 
 use crate::ask::{hold_to_orders, mark_of, marks, refusal, table};
 use crate::seen::Seen;
 
-const UNSIGNED: u16 = 2;
-const SIGNED: u16 = 3;
 const MOST: i128 = u64::MAX as i128;
 
 /// Eight bytes: at a border, of a pattern that another order of bytes changes, or any.
@@ -39,13 +38,13 @@ fn near(r: &mut Random, n: u64) -> u64 {
 /// The whole number in the eight bytes of a value.
 fn value(kind: u16, word: u64) -> i128 {
     match kind {
-        SIGNED => i128::from(word as i64),
+        SINT64 => i128::from(word as i64),
         _ => i128::from(word),
     }
 }
 
 fn values(r: &mut Random) {
-    const KINDS: [u16; 4] = [UNSIGNED, UNSIGNED, SIGNED, SIGNED];
+    const KINDS: [u16; 4] = [UINT64, UINT64, SINT64, SINT64];
     let table = table(&KINDS);
     let mut seen = Seen::default();
     for _ in 0..50 {
@@ -90,7 +89,7 @@ fn spelled(r: &mut Random, n: i128) -> (String, &'static str) {
 
 /// Holds a literal to its value by the values beside it, of both types.
 fn hold_literal(r: &mut Random, literal: &str, n: i128) {
-    for kind in [UNSIGNED, SIGNED] {
+    for kind in [UINT64, SINT64] {
         let around = n as u64;
         let mut words: Vec<u64> = [0, 1, u64::MAX, 1 << 63, (1 << 63) - 1].to_vec();
         words.extend([around, around.wrapping_add(1), around.wrapping_sub(1), near(r, around)]);
@@ -146,7 +145,7 @@ fn digits_of_any_length(r: &mut Random) {
         let literal = format!("{sign}{before}{digits}{after}");
         match size {
             None => {
-                let found = refusal(format!("A = {literal}").as_bytes(), &table(&[UNSIGNED]));
+                let found = refusal(format!("A = {literal}").as_bytes(), &table(&[UINT64]));
                 assert_eq!(found, Some((23, 4)), "{literal}");
                 seen.add("beyond");
             }
@@ -161,7 +160,7 @@ fn digits_of_any_length(r: &mut Random) {
 
 /// Equality with the one value that a type may have of this number.
 fn hold_to_its_value(literal: &str, n: i128) {
-    let kind = if n < 0 { SIGNED } else { UNSIGNED };
+    let kind = if n < 0 { SINT64 } else { UINT64 };
     let words = [n as u64, (n as u64).wrapping_add(1), (n as u64).wrapping_sub(1)];
     let instances = words.map(|word| write(kind, &word.to_le_bytes()));
     let found = marks(&format!("A = {literal}"), &table(&[kind]), &instances);
@@ -183,7 +182,7 @@ fn the_limits_of_literals() {
             for n in [n, -n] {
                 let query = format!("A >= {}", spelled(r, n).0);
                 let expected = (n.abs() > MOST).then_some((23, 5));
-                assert_eq!(refusal(query.as_bytes(), &table(&[SIGNED])), expected, "{query}");
+                assert_eq!(refusal(query.as_bytes(), &table(&[SINT64])), expected, "{query}");
             }
         }
     });

@@ -1,10 +1,9 @@
 //! AND and OR, in groups and between them: every way to join up to six comparisons, with every truth of each.
 
 use fql::record::write;
+use fql::types::BOOLEAN;
 
 use crate::ask::{answer, table};
-
-const BOOLEAN: u16 = 1;
 
 /// What joins a comparison to the next.
 #[derive(Clone, Copy, PartialEq, Eq)]

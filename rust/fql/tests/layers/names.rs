@@ -1,6 +1,7 @@
 //! Names and reserved words: every byte in a name, every pair of letters in two names, every word in every case.
 
 use fql::record::{write, CLASS, NULL};
+use fql::types::BOOLEAN;
 
 use crate::ask::{answer, refusal};
 
@@ -8,7 +9,7 @@ const WORDS: [&str; 9] = ["AND", "ANY", "EVERY", "FALSE", "LIKE", "NOT", "NULL",
 
 /// A class with properties of these names.
 fn class(name: &[u8], properties: &[&[u8]]) -> Vec<u8> {
-    properties.iter().fold(write(CLASS, name), |out, property| [out, write(1, property)].concat())
+    properties.iter().fold(write(CLASS, name), |out, property| [out, write(BOOLEAN, property)].concat())
 }
 
 fn is_name(name: &[u8]) -> bool {

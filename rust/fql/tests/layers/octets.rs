@@ -1,12 +1,11 @@
 //! Octets in values and in literals: an unsigned hex literal is its bytes, one for each pair of digits.
 
 use fql::record::write;
+use fql::types::OCTETS;
 use reference::random::{for_each_seed, Random};
 
 use crate::ask::{mark_of, marks, refusal, table};
 use crate::seen::Seen;
-
-const OCTETS: u16 = 8;
 
 fn spelled(r: &mut Random, bytes: &[u8]) -> String {
     let digits: String =

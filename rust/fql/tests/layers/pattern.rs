@@ -1,14 +1,13 @@
 //! Patterns beside a matcher that backtracks over the syntax tree: which are well-formed, what they match, and the steps.
 
 use fql::record::write;
+use fql::types::STRING;
 use reference::pattern::Pattern;
 use reference::random::{for_each_seed, Random};
 
 use crate::ask::{answer, mark_of, marks, refusal, table};
 use crate::quoted::quoted;
 use crate::seen::Seen;
-
-const STRING: u16 = 6;
 
 fn codes(text: &str) -> Vec<u32> {
     text.chars().map(u32::from).collect()

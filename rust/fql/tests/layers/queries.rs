@@ -3,6 +3,8 @@
 
 use std::collections::BTreeMap;
 
+use fql::record::ARRAY;
+use fql::types::{BOOLEAN, CHAR16, DATETIME, REAL64, REFERENCE, SINT64, STRING, UINT64};
 use reference::examples::setting::{
     array, char16, datetime, real64, reference as key, signed, text, truth, unsigned, Setting,
 };
@@ -16,17 +18,17 @@ fn setting() -> Setting {
     Setting::new(
         "P",
         &[
-            ("U", 2, unsigned(5)),
-            ("Us", 0x0102, array(2, &[unsigned(5), unsigned(0)])),
-            ("S", 6, text("x")),
-            ("Name", 6, text("\u{41bc}")),
-            ("Temp_2", 3, signed(-5)),
-            ("_x1", 9, datetime("20051003112233.000000+000")),
-            ("Dev", 0x0102, array(2, &[])),
-            ("notany", 7, char16(0xffff)),
-            ("e5", 5, real64(0.5)),
-            ("B", 1, truth(true)),
-            ("P", 10, key("x")),
+            ("U", UINT64, unsigned(5)),
+            ("Us", ARRAY | UINT64, array(UINT64, &[unsigned(5), unsigned(0)])),
+            ("S", STRING, text("x")),
+            ("Name", STRING, text("\u{41bc}")),
+            ("Temp_2", SINT64, signed(-5)),
+            ("_x1", DATETIME, datetime("20051003112233.000000+000")),
+            ("Dev", ARRAY | UINT64, array(UINT64, &[])),
+            ("notany", CHAR16, char16(0xffff)),
+            ("e5", REAL64, real64(0.5)),
+            ("B", BOOLEAN, truth(true)),
+            ("P", REFERENCE, key("x")),
         ],
     )
 }

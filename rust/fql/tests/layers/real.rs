@@ -1,13 +1,11 @@
 //! Real literals beside the standard library's parser, which rounds correctly; reals in bytes beside its comparison.
 
 use fql::record::write;
+use fql::types::{REAL32, REAL64};
 use reference::random::{for_each_seed, Random};
 
 use crate::ask::{hold_to_orders, mark_of, marks, refusal, table};
 use crate::seen::Seen;
-
-const REAL32: u16 = 4;
-const REAL64: u16 = 5;
 
 /// Whether the digits without the point make a number below 10^15, and the exponent less the digits after the point is
 /// from −22 to 22.

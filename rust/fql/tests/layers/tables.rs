@@ -2,13 +2,14 @@
 //! each name of a good table finds.
 
 use fql::record::{write, ARRAY, CLASS, NULL};
+use fql::types::{BOOLEAN, CHAR16, DATETIME, OCTETS, REAL32, REAL64, REFERENCE, SINT64, STRING, UINT64};
 use reference::random::{for_each_seed, Random};
 use reference::record::{is_reserved, Property, Table};
 
 use crate::ask::{mark_of, marks, refusal};
 use crate::seen::Seen;
 
-const KINDS: [u16; 10] = [1, 2, 3, 4, 5, 6, 7, 8, 9, 10];
+const TYPES: [u16; 10] = [BOOLEAN, UINT64, SINT64, REAL32, REAL64, STRING, CHAR16, OCTETS, DATETIME, REFERENCE];
 
 pub fn table_of(class: &str, properties: &[(String, u16)]) -> Vec<u8> {
     properties
@@ -23,24 +24,24 @@ pub fn random_table(r: &mut Random) -> Vec<u8> {
         let name: String = (0..n).map(|_| char::from(r.pick(b"aAbB_z09"))).collect();
         let name = if r.chance(8) { "null".to_owned() } else { format!("x{name}") };
         let array = if r.chance(3) { ARRAY } else { 0 };
-        properties.push((name, r.pick(&KINDS) | array));
+        properties.push((name, r.pick(&TYPES) | array));
     }
     table_of(r.pick(&["P", "Class_1", "Or", "_"]), &properties)
 }
 
 /// A record of this kind that isn't NULL.
 fn some_value(kind: u16) -> Vec<u8> {
-    let body: &[u8] = match kind & 0x00ff {
-        1 => &[1],
-        2 | 3 | 5 => &[0; 8],
-        4 => &[0; 4],
-        7 => &[0; 2],
-        9 => b"00000101000000.000000+000",
+    let body: &[u8] = match kind & !ARRAY {
+        BOOLEAN => &[1],
+        UINT64 | SINT64 | REAL64 => &[0; 8],
+        REAL32 => &[0; 4],
+        CHAR16 => &[0; 2],
+        DATETIME => b"00000101000000.000000+000",
         _ => b"",
     };
     match kind & ARRAY {
         0 => write(kind, body),
-        _ => write(kind, &write(kind & 0x00ff, body)),
+        _ => write(kind, &write(kind & !ARRAY, body)),
     }
 }
 

@@ -1,6 +1,7 @@
 //! Where a token ends and the next one starts. No function tells it, so these are queries whose answer, number or place
 //! depends on it: numbers and strings of random letters, escapes, neighbours that touch, and every prefix of a query.
 
+use fql::types::STRING;
 use reference::cases::random;
 use reference::examples::setting::{text, types};
 use reference::random::{for_each_seed, Random};
@@ -81,7 +82,7 @@ fn letters_of_strings() {
 /// `\u` takes the longest run of four to six digits, which must be a scalar value; what follows stands for itself.
 #[test]
 fn every_run_of_digits_after_an_escape() {
-    let (table, mut seen) = (table(&[6]), Seen::default());
+    let (table, mut seen) = (table(&[STRING]), Seen::default());
     for length in 0..=7 {
         for run in 0..4usize.pow(length) {
             let digits: String = (0..length).map(|n| ['0', '1', 'd', 'F'][run / 4usize.pow(n) % 4]).collect();

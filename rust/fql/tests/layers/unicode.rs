@@ -3,15 +3,12 @@
 use std::str::from_utf8;
 
 use fql::record::{write, ARRAY};
+use fql::types::{CHAR16, REFERENCE, STRING};
 use reference::random::{for_each_seed, Random};
 
 use crate::ask::{answer, mark_of, marks, refusal, table};
 use crate::quoted::stands_raw;
 use crate::seen::Seen;
-
-const STRING: u16 = 6;
-const CHAR16: u16 = 7;
-const REFERENCE: u16 = 10;
 
 /// 10 exactly where the standard library finds a fault, at the same place: in the bytes alone and in a string literal.
 fn hold_in_queries(bytes: &[u8], table: &[u8], seen: &mut Seen) {
@@ -28,7 +25,7 @@ fn hold_in_queries(bytes: &[u8], table: &[u8], seen: &mut Seen) {
     seen.add(if from_utf8(bytes).is_ok() { "well-formed" } else { "ill-formed" });
 }
 
-/// A body of type 6 or 10 conforms exactly where the standard library finds no fault.
+/// A body of a string or a reference conforms exactly where the standard library finds no fault.
 fn hold_in_values(bodies: &[Vec<u8>]) {
     for kind in [STRING, REFERENCE] {
         let instances: Vec<Vec<u8>> = bodies.iter().map(|body| write(kind, body)).collect();

@@ -3,9 +3,10 @@
 use super::source::{Held, Source};
 use super::tokens::{in_any_case, write, Tokens};
 use super::{literal, pattern};
+use crate::kind::{is_array, type_of};
 use crate::random::Random;
 use crate::syntax::LENGTH_OF_QUERY;
-use crate::value::{is_array, Row, Value};
+use crate::value::{Row, Value};
 
 pub fn is_scalar(kind: u16) -> bool {
     !is_array(kind)
@@ -67,7 +68,7 @@ pub fn element(r: &mut Random, s: &Source, n: usize) -> Tokens {
 /// An operator and a scalar after the left side: a literal, a scalar property or, where the grammar has it, an element.
 fn operand(r: &mut Random, s: &Source, left: usize, elements: bool) -> Tokens {
     let row = Row::of(s.kind(left));
-    let plain = s.kind(left) & 0x00ff;
+    let plain = type_of(s.kind(left));
     match r.below(12) {
         0 => return vec![equality(r), literal::null(r)],
         1..=3 => {
@@ -127,7 +128,7 @@ pub fn braced(elements: &[String]) -> Tokens {
 
 /// Literals for the elements of an array, most of them as it holds them.
 pub fn elements(r: &mut Random, s: &Source, left: usize) -> Vec<String> {
-    let plain = s.kind(left) & 0x00ff;
+    let plain = type_of(s.kind(left));
     let mut out: Vec<String> = match &s.held[left] {
         Held::Array(Some(held)) if held.len() <= 32 && !r.chance(4) => {
             let exact = |r: &mut Random, body: &Option<Vec<u8>>| match body {
@@ -147,7 +148,7 @@ pub fn elements(r: &mut Random, s: &Source, left: usize) -> Vec<String> {
 
 /// The text of a scalar or of an element, for a pattern to match.
 pub fn near_text(r: &mut Random, s: &Source, left: usize) -> String {
-    match s.near(r, left).map(|body| Value::decode(s.kind(left) & 0x00ff, &body)) {
+    match s.near(r, left).map(|body| Value::decode(type_of(s.kind(left)), &body)) {
         Some(Value::Text(text)) => text,
         _ => String::new(),
     }

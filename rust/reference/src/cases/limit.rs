@@ -4,9 +4,10 @@ use super::comparison::{self, any_operator, braced, equality, index, is_scalar, 
 use super::source::Source;
 use super::tokens::{marked, marked_first, write as write_tokens, Tokens};
 use super::{literal, value, Case, Intended};
+use crate::kind::{is_array, type_of, ARRAY, BOOLEAN, NULL, TYPES, UINT64};
 use crate::random::Random;
 use crate::record::{write, Property, Table};
-use crate::value::{is_array, Row};
+use crate::value::Row;
 
 pub fn case(r: &mut Random) -> Case {
     match r.below(14) {
@@ -59,7 +60,7 @@ fn elements(r: &mut Random) -> Case {
     let n = 30 + r.below(5);
     let mut list: Vec<String> = (0..n)
         .map(|_| loop {
-            let literal = literal::fitting(r, s.kind(left) & 0x00ff, None);
+            let literal = literal::fitting(r, type_of(s.kind(left)), None);
             if literal.len() <= 60 {
                 break literal;
             }
@@ -122,9 +123,9 @@ fn named(names: &[String], kind: u16) -> Table {
 
 /// A query for the last of some properties, which are all NULL.
 fn on_nulls(r: &mut Random, names: &[String], intended: Intended) -> Case {
-    let kind = 1 + r.below(10) as u16;
+    let kind = r.pick(&TYPES);
     let query = format!("{} = NULL", names.last().unwrap()).into_bytes();
-    let instance = write(0, &[]).repeat(names.len());
+    let instance = write(NULL, &[]).repeat(names.len());
     Case { sort: "limit", query, table: named(names, kind).write(), instance, intended }
 }
 
@@ -157,7 +158,7 @@ fn instance_length(r: &mut Random) -> Case {
     let mut instance = s.instance.clone();
     if r.chance(2) {
         while instance.len() + 200 < total {
-            instance.extend(write(0x0102, &[7; 100]));
+            instance.extend(write(ARRAY | UINT64, &[7; 100]));
         }
     }
     instance.extend(write(0x4444, &vec![7; total - instance.len() - 4]));
@@ -200,18 +201,18 @@ fn real(r: &mut Random) -> Case {
 
 /// An array of about 256 elements in front of the other records.
 fn array_length(r: &mut Random) -> Case {
-    let plain = 1 + r.below(10) as u16;
+    let plain = r.pick(&TYPES);
     let n = 254 + r.below(5);
     let one = write(plain, &value::body(r, plain));
-    let two = if r.chance(2) { write(0, &[]) } else { write(plain, &value::body(r, plain)) };
+    let two = if r.chance(2) { write(NULL, &[]) } else { write(plain, &value::body(r, plain)) };
     let mut elements = vec![one; n];
     elements[n - 1] = two;
-    let records = [write(1, &[1]), write(plain | 0x0100, &elements.concat())];
+    let records = [write(BOOLEAN, &[1]), write(ARRAY | plain, &elements.concat())];
     let table = Table {
         class: b"C".to_vec(),
         properties: vec![
-            Property { name: b"b".to_vec(), kind: 1 },
-            Property { name: b"a".to_vec(), kind: plain | 0x0100 },
+            Property { name: b"b".to_vec(), kind: BOOLEAN },
+            Property { name: b"a".to_vec(), kind: ARRAY | plain },
         ],
     };
     let query =

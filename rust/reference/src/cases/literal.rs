@@ -3,6 +3,7 @@
 use super::datetime;
 use super::tokens::in_any_case;
 use super::value;
+use crate::kind::TYPES;
 use crate::random::Random;
 use crate::value::{Row, Value};
 
@@ -179,7 +180,7 @@ pub fn any(r: &mut Random) -> String {
         1 => signed_hex(r),
         2 => beyond(r),
         _ => {
-            let kind = 1 + r.below(10) as u16;
+            let kind = r.pick(&TYPES);
             fitting(r, kind, None)
         }
     }

@@ -3,6 +3,7 @@
 
 use super::source::Source;
 use super::{comparison, value};
+use crate::kind::{BOOLEAN, CLASS, INSTANCE, NULL};
 use crate::random::Random;
 use crate::record::write;
 
@@ -29,10 +30,10 @@ fn run(r: &mut Random, source: &Source, instances: usize) -> Vec<u8> {
     let mut out = Vec::new();
     for _ in 0..instances {
         if r.chance(60) {
-            let kind = r.pick(&[0, 1, 0x0003, 0x0200, 0x0301, 0x1300, 0xffff]);
+            let kind = r.pick(&[NULL, BOOLEAN, 0x0003, CLASS, 0x0301, 0x1300, 0xffff]);
             out.extend(write(kind, b"x"));
         }
-        out.extend(write(0x0300, &body(r, source)));
+        out.extend(write(INSTANCE, &body(r, source)));
     }
     if r.chance(8) {
         out = r.damage(&out);

@@ -2,9 +2,9 @@
 
 use super::tokens::{in_any_case, Tokens};
 use super::{table, value, Case, Intended};
+use crate::kind::{is_array, NULL};
 use crate::random::Random;
 use crate::record::{is_reserved, read, Record, Table};
-use crate::value::is_array;
 
 /// A value's body, none for NULL.
 pub type Body = Option<Vec<u8>>;
@@ -21,7 +21,7 @@ pub struct Source {
 }
 
 fn body(record: &Record) -> Body {
-    (record.kind != 0).then(|| record.body.to_vec())
+    (record.kind != NULL).then(|| record.body.to_vec())
 }
 
 fn held(kind: u16, record: &Record) -> Held {

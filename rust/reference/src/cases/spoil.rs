@@ -2,9 +2,12 @@
 
 use super::source::Source;
 use super::{comparison, datetime, table as tables, tokens, value, Case, Intended};
+use crate::kind::{
+    is_array, type_of, ARRAY, BOOLEAN, CHAR16, CLASS, DATETIME, NULL, OCTETS, REAL32, REAL64, REFERENCE, SINT64,
+    STRING, UINT64,
+};
 use crate::random::Random;
 use crate::record::{read, write};
-use crate::value::is_array;
 
 /// A table with one fault; the query may have some too, which come after it.
 pub fn table(r: &mut Random) -> Case {
@@ -32,7 +35,7 @@ fn faulty_table(r: &mut Random, s: &Source) -> (Vec<u8>, u64, u64) {
     let number = 1 + r.below(s.table.properties.len());
     let (before, own, after) = parted(&bytes, number);
     let place = before.len() as u64;
-    let kind = r.pick(&tables::KINDS);
+    let kind = tables::kind(r);
     match r.below(8) {
         0 => {
             let earlier = &s.table.properties[r.below(s.table.properties.len())].name;
@@ -54,10 +57,10 @@ fn faulty_table(r: &mut Random, s: &Source) -> (Vec<u8>, u64, u64) {
         }
         5 => {
             let class = r.pick(&["And", "OR", "null", "", "1x", "a.b", "Every"]);
-            ([write(0x0200, class.as_bytes()), bytes[4 + s.table.class.len()..].to_vec()].concat(), 2, 0)
+            ([write(CLASS, class.as_bytes()), bytes[4 + s.table.class.len()..].to_vec()].concat(), 2, 0)
         }
         6 => {
-            let (kind, name) = (r.pick(&[0, 1, 0x0100, 0x0201]), s.table.class.clone());
+            let (kind, name) = (r.pick(&[NULL, BOOLEAN, ARRAY, 0x0201]), s.table.class.clone());
             ([write(kind, &name), bytes[4 + name.len()..].to_vec()].concat(), 2, 0)
         }
         _ => (if r.chance(2) { vec![] } else { bytes.repeat(8_193 / bytes.len() + 1) }, 2, 0),
@@ -103,31 +106,31 @@ fn faulty_instance(r: &mut Random, s: &Source) -> (Vec<u8>, u64, u64) {
 /// A record that isn't one of this kind.
 fn wrong_record(r: &mut Random, kind: u16) -> Vec<u8> {
     match r.below(6) {
-        0 => write(0, &[0]),
+        0 => write(NULL, &[0]),
         1 => {
             let other = loop {
-                let other = r.pick(&tables::KINDS);
+                let other = tables::kind(r);
                 if other != kind {
                     break other;
                 }
             };
-            let plain = value::body(r, other & 0x00ff);
+            let plain = value::body(r, type_of(other));
             let body = if is_array(other) { vec![] } else { plain };
             write(other, &body)
         }
         _ if is_array(kind) => wrong_array(r, kind),
         // Every body is one of octets.
-        _ if kind == 8 => write(r.pick(&[11, 0x0108, 0x1008]), &[]),
+        _ if kind == OCTETS => write(r.pick(&[11, ARRAY | OCTETS, 0x1008]), &[]),
         _ => write(kind, &wrong_body(r, kind)),
     }
 }
 
 fn wrong_body(r: &mut Random, kind: u16) -> Vec<u8> {
     match kind {
-        1 => r.pick(&[&[2][..], &[255], &[], &[1, 0]]).to_vec(),
-        2 | 3 | 5 => vec![1; r.pick(&[0, 4, 7, 9, 16])],
-        4 => vec![1; r.pick(&[0, 3, 5, 8])],
-        6 | 10 => {
+        BOOLEAN => r.pick(&[&[2][..], &[255], &[], &[1, 0]]).to_vec(),
+        UINT64 | SINT64 | REAL64 => vec![1; r.pick(&[0, 4, 7, 9, 16])],
+        REAL32 => vec![1; r.pick(&[0, 3, 5, 8])],
+        STRING | REFERENCE => {
             let bad = r.pick(&[
                 &[0xff][..],
                 &[0xc0, 0x80],
@@ -138,25 +141,25 @@ fn wrong_body(r: &mut Random, kind: u16) -> Vec<u8> {
             ]);
             [value::text(r).as_bytes(), bad, b"x"].concat()
         }
-        7 => match r.chance(2) {
+        CHAR16 => match r.chance(2) {
             true => vec![r.byte(), 0xd8 + r.below(8) as u8],
             false => vec![0x61; r.pick(&[0, 1, 3])],
         },
-        9 => datetime::malformed(r).into_bytes(),
+        DATETIME => datetime::malformed(r).into_bytes(),
         other => panic!("{other} has no wrong body"),
     }
 }
 
 fn wrong_array(r: &mut Random, kind: u16) -> Vec<u8> {
-    let plain = kind & 0x00ff;
+    let plain = type_of(kind);
     let good = write(plain, &value::body(r, plain));
     let spoiled = match r.below(5) {
-        0 => return write(kind, &write(0, &[]).repeat(257 + r.below(40))),
+        0 => return write(kind, &write(NULL, &[]).repeat(257 + r.below(40))),
         1 => vec![9; 1 + r.below(3)],
         2 => write(kind, &[]),
-        3 => write(0, &[1]),
+        3 => write(NULL, &[1]),
         _ => wrong_record(r, plain),
     };
     let n = r.below(3);
-    write(kind, &[good.repeat(n), spoiled, write(0, &[])].concat())
+    write(kind, &[good.repeat(n), spoiled, write(NULL, &[])].concat())
 }

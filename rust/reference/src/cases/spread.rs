@@ -1,5 +1,6 @@
 //! How the cases of a run are spread over answers, refusals and forms of comparison.
 
+use crate::kind::is_array;
 use std::collections::BTreeMap;
 
 use super::Case;
@@ -65,7 +66,7 @@ impl Spread {
         self.verdicts[verdict] += 1;
         let (table, comparisons) = check::read(&case.query, &case.table).unwrap();
         for (c, _) in &comparisons {
-            let array = find(&case.query, &table, &c.left).is_some_and(|(_, kind)| crate::value::is_array(kind));
+            let array = find(&case.query, &table, &c.left).is_some_and(|(_, kind)| is_array(kind));
             let form = form(c, array);
             *self.forms.entry(form).or_default() += 1;
             if comparisons.len() == 1 {

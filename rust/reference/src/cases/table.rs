@@ -1,5 +1,6 @@
 //! Random tables.
 
+use crate::kind::{ARRAY, TYPES};
 use crate::random::Random;
 use crate::record::{is_reserved, Property, Table};
 
@@ -11,8 +12,10 @@ const NAMES: [&str; 40] = [
     "T1", "Q_", "Zz9", "i", "j", "k", "l",
 ];
 
-pub const KINDS: [u16; 20] =
-    [1, 2, 3, 4, 5, 6, 7, 8, 9, 10, 0x0101, 0x0102, 0x0103, 0x0104, 0x0105, 0x0106, 0x0107, 0x0108, 0x0109, 0x010a];
+/// A kind that a property may have.
+pub fn kind(r: &mut Random) -> u16 {
+    r.pick(&TYPES) | r.pick(&[0, ARRAY])
+}
 
 fn has(table: &Table, name: &str) -> bool {
     table.find(name.as_bytes()).is_some()
@@ -63,7 +66,7 @@ fn filled(r: &mut Random, kinds: &[u16], more: usize) -> Table {
     let mut table = empty(r);
     for n in 0..kinds.len() + more {
         let name = new_name(r, &table);
-        let kind = kinds.get(n).copied().unwrap_or_else(|| r.pick(&KINDS));
+        let kind = kinds.get(n).copied().unwrap_or_else(|| kind(r));
         push(&mut table, &name, kind);
     }
     table
@@ -80,7 +83,7 @@ pub fn random(r: &mut Random) -> Table {
 
 /// A table with a scalar and an array of every type, in random order, and a few more.
 pub fn of_all_types(r: &mut Random) -> Table {
-    let mut kinds = KINDS.to_vec();
+    let mut kinds: Vec<u16> = TYPES.iter().flat_map(|&plain| [plain, ARRAY | plain]).collect();
     for last in (1..kinds.len()).rev() {
         let other = r.below(last + 1);
         kinds.swap(last, other);
@@ -92,7 +95,7 @@ pub fn of_all_types(r: &mut Random) -> Table {
 pub fn with_names(r: &mut Random, names: &[&str]) -> Table {
     let mut table = Table { class: b"P".to_vec(), properties: Vec::new() };
     for name in names {
-        let kind = r.pick(&KINDS);
+        let kind = kind(r);
         push(&mut table, name, kind);
     }
     table

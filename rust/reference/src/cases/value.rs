@@ -1,6 +1,10 @@
 //! Random values as records, and random instances.
 
 use super::datetime;
+use crate::kind::{
+    is_array, type_of, ARRAY, BOOLEAN, CHAR16, CLASS, DATETIME, NULL, OCTETS, REAL32, REAL64, REFERENCE, SINT64,
+    STRING, UINT64,
+};
 use crate::random::Random;
 use crate::record::{write, Table, LENGTH_OF_INSTANCE};
 
@@ -112,30 +116,30 @@ fn char16(r: &mut Random) -> u16 {
 /// The body of a value of a plain type.
 pub fn body(r: &mut Random, kind: u16) -> Vec<u8> {
     match kind {
-        1 => vec![r.below(2) as u8],
-        2 => unsigned(r).to_le_bytes().to_vec(),
-        3 => signed(r).to_le_bytes().to_vec(),
-        4 => real32(r).to_le_bytes().to_vec(),
-        5 => real64(r).to_le_bytes().to_vec(),
-        6 => text(r).into_bytes(),
-        7 => char16(r).to_le_bytes().to_vec(),
-        8 => {
+        BOOLEAN => vec![r.below(2) as u8],
+        UINT64 => unsigned(r).to_le_bytes().to_vec(),
+        SINT64 => signed(r).to_le_bytes().to_vec(),
+        REAL32 => real32(r).to_le_bytes().to_vec(),
+        REAL64 => real64(r).to_le_bytes().to_vec(),
+        STRING => text(r).into_bytes(),
+        CHAR16 => char16(r).to_le_bytes().to_vec(),
+        OCTETS => {
             let n = r.below(5);
             (0..n).map(|_| r.pick(&[0, 1, 2, 0xab, 0xff])).collect()
         }
-        9 => datetime::text(r).into_bytes(),
-        10 => r.pick(&["", "a/b", "root/cimv2:C.k=1", "A/b", "\u{e9}"]).as_bytes().to_vec(),
+        DATETIME => datetime::text(r).into_bytes(),
+        REFERENCE => r.pick(&["", "a/b", "root/cimv2:C.k=1", "A/b", "\u{e9}"]).as_bytes().to_vec(),
         other => panic!("{other} is no plain type"),
     }
 }
 
 fn scalar(r: &mut Random, kind: u16) -> Vec<u8> {
     if r.chance(6) {
-        return write(0, &[]);
+        return write(NULL, &[]);
     }
-    if kind == 6 && r.chance(150) {
+    if kind == STRING && r.chance(150) {
         let piece = r.pick(&["ab", "a", "\u{1d11e}", "FAN_"]);
-        return write(6, piece.repeat(100 + r.below(400)).as_bytes());
+        return write(STRING, piece.repeat(100 + r.below(400)).as_bytes());
     }
     let body = body(r, kind);
     write(kind, &body)
@@ -143,21 +147,21 @@ fn scalar(r: &mut Random, kind: u16) -> Vec<u8> {
 
 fn array(r: &mut Random, kind: u16) -> Vec<u8> {
     if r.chance(6) {
-        return write(0, &[]);
+        return write(NULL, &[]);
     }
     let n = match r.below(150) {
         0 => 255 + r.below(2),
         1 => 30 + r.below(5),
         _ => r.below(5),
     };
-    let plain = kind & 0x00ff;
+    let plain = type_of(kind);
     // Runs of one value make searches that end late.
     let repeated = body(r, plain);
     let same = r.chance(3);
     let mut elements = Vec::new();
     for _ in 0..n {
         elements.extend(match r.below(6) {
-            0 => write(0, &[]),
+            0 => write(NULL, &[]),
             _ if same && !r.chance(8) => write(plain, &repeated),
             _ => {
                 let body = body(r, plain);
@@ -170,9 +174,9 @@ fn array(r: &mut Random, kind: u16) -> Vec<u8> {
 
 /// A record for a property of this kind.
 pub fn record(r: &mut Random, kind: u16) -> Vec<u8> {
-    match kind & 0x0100 {
-        0 => scalar(r, kind),
-        _ => array(r, kind),
+    match is_array(kind) {
+        false => scalar(r, kind),
+        true => array(r, kind),
     }
 }
 
@@ -181,7 +185,7 @@ pub fn subclass(r: &mut Random) -> Vec<u8> {
     let mut out = Vec::new();
     for _ in 0..1 + r.below(3) {
         let kind = r.word() as u16;
-        let kind = r.pick(&[0, 1, 9, 0x0102, 0x0200, 0xffff, kind]);
+        let kind = r.pick(&[NULL, BOOLEAN, DATETIME, ARRAY | UINT64, CLASS, 0xffff, kind]);
         let body: Vec<u8> = (0..r.below(9)).map(|_| r.byte()).collect();
         out.extend(write(kind, &body));
     }
@@ -192,7 +196,7 @@ pub fn subclass(r: &mut Random) -> Vec<u8> {
 pub fn instance(r: &mut Random, table: &Table) -> Vec<u8> {
     let mut out: Vec<u8> = table.properties.iter().flat_map(|p| record(r, p.kind)).collect();
     if out.len() > LENGTH_OF_INSTANCE - 100 {
-        out = write(0, &[]).repeat(table.properties.len());
+        out = write(NULL, &[]).repeat(table.properties.len());
     }
     if r.chance(4) {
         out.extend(subclass(r));

@@ -6,8 +6,9 @@ use super::source::Source;
 use super::table::unknown_word;
 use super::tokens::{in_any_case, marked, marked_first, Tokens};
 use super::{datetime, literal, pattern};
+use crate::kind::{is_array, ARRAY, BOOLEAN, DATETIME, OCTETS, REAL64, STRING};
 use crate::random::Random;
-use crate::value::{is_array, Row};
+use crate::value::Row;
 
 /// A comparison refused with this number, 20 to 25, over a table with all types.
 pub fn comparison(r: &mut Random, s: &Source, number: u64) -> Tokens {
@@ -117,11 +118,11 @@ fn unfitting(r: &mut Random, row: Row) -> String {
             0 => ("signed hex", literal::signed_hex(r)),
             1 => ("real", literal::beyond_reals(r)),
             2 => ("decimal", "99999999999999999999".to_owned()),
-            3 => ("truth", literal::fitting(r, 1, None)),
+            3 => ("truth", literal::fitting(r, BOOLEAN, None)),
             4 => ("decimal", r.below(100).to_string()),
-            5 => ("real", literal::fitting(r, 5, None)),
-            6 => ("hex", literal::fitting(r, 8, None)),
-            _ => ("text", literal::fitting(r, 6, None)),
+            5 => ("real", literal::fitting(r, REAL64, None)),
+            6 => ("hex", literal::fitting(r, OCTETS, None)),
+            _ => ("text", literal::fitting(r, STRING, None)),
         };
         let fits = match row {
             Row::Truth => literal.0 == "truth",
@@ -242,8 +243,8 @@ fn malformed_pattern(r: &mut Random, s: &Source) -> Tokens {
 }
 
 fn malformed_datetime(r: &mut Random, s: &Source) -> Tokens {
-    let one = s.pick(r, |k| k == 9).unwrap();
-    let many = s.pick(r, |k| k == 0x0109).unwrap();
+    let one = s.pick(r, |k| k == DATETIME).unwrap();
+    let many = s.pick(r, |k| k == ARRAY | DATETIME).unwrap();
     let operator = vec![any_operator(r)];
     let text = datetime::malformed(r);
     let bad = literal::quoted(r, &text);

@@ -3,6 +3,7 @@
 use super::setting::{array, datetime, types};
 use super::Example;
 use super::Expected::{Excluded, Included, Refused};
+use crate::kind::DATETIME;
 
 const WELL_FORMED: [&str; 18] = [
     "20051003112233.000000+000",
@@ -154,7 +155,7 @@ fn timestamps_and_intervals() -> Vec<Example> {
 }
 
 fn in_queries() -> Vec<Example> {
-    let both = array(9, &[datetime("20051003112233.000000+000"), datetime("00000001000000.000000:000")]);
+    let both = array(DATETIME, &[datetime("20051003112233.000000+000"), datetime("00000001000000.000000:000")]);
     let mut out = types().with("Ts", both).ask(&[
         ("ANY Ts = _x1", Included(3)),
         ("EVERY Ts = T", Excluded(3)),

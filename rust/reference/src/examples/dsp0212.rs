@@ -4,24 +4,25 @@
 use super::setting::{array, datetime, signed, text, truth, unsigned, Setting};
 use super::Example;
 use super::Expected::{Excluded, Included, Refused};
+use crate::kind::{ARRAY, BOOLEAN, DATETIME, SINT64, STRING, UINT64};
 
 fn metric() -> Setting {
-    let uint = |numbers: &[u64]| array(2, &numbers.iter().map(|&n| unsigned(n)).collect::<Vec<_>>());
+    let uint = |numbers: &[u64]| array(UINT64, &numbers.iter().map(|&n| unsigned(n)).collect::<Vec<_>>());
     Setting::new(
         "Metric",
         &[
-            ("Started", 1, truth(true)),
-            ("StartMode", 6, text("Manual")),
-            ("Threshold", 2, unsigned(30)),
-            ("CreationClassName", 6, text("CIM_Service")),
-            ("Dedicated", 0x0102, uint(&[3, 14])),
-            ("RequestedState", 2, unsigned(2)),
-            ("EnabledState", 2, unsigned(2)),
-            ("SystemTime", 9, datetime("20051003112233.000000+000")),
-            ("InstallDate", 9, datetime("20060101000000.000000+000")),
-            ("OperationalStates", 0x0102, uint(&[2, 5])),
-            ("Temperatures", 0x0103, array(3, &[signed(20), signed(40)])),
-            ("MaxTemperature", 3, signed(30)),
+            ("Started", BOOLEAN, truth(true)),
+            ("StartMode", STRING, text("Manual")),
+            ("Threshold", UINT64, unsigned(30)),
+            ("CreationClassName", STRING, text("CIM_Service")),
+            ("Dedicated", ARRAY | UINT64, uint(&[3, 14])),
+            ("RequestedState", UINT64, unsigned(2)),
+            ("EnabledState", UINT64, unsigned(2)),
+            ("SystemTime", DATETIME, datetime("20051003112233.000000+000")),
+            ("InstallDate", DATETIME, datetime("20060101000000.000000+000")),
+            ("OperationalStates", ARRAY | UINT64, uint(&[2, 5])),
+            ("Temperatures", ARRAY | SINT64, array(SINT64, &[signed(20), signed(40)])),
+            ("MaxTemperature", SINT64, signed(30)),
         ],
     )
 }
@@ -45,7 +46,7 @@ fn of_the_clauses() -> Vec<Example> {
         ("NOT EVERY Temperatures < MaxTemperature", Included(3)),
         ("EVERY Temperatures < MaxTemperature", Excluded(3)),
     ]);
-    let other = Setting::new("Service", &[("Threshold", 2, unsigned(30))]);
+    let other = Setting::new("Service", &[("Threshold", UINT64, unsigned(30))]);
     out.extend(other.ask(&[("Metric.Threshold > 25", Refused(20, 0))]));
     out
 }
@@ -75,7 +76,7 @@ fn of_the_list() -> Vec<Example> {
 /// The same queries where the answer is the other one.
 fn on_other_instances() -> Vec<Example> {
     let both = "(Started = true and startmode='manual') OR (Started=False and\nStartmode='Automatic')";
-    let uint = |numbers: &[u64]| array(2, &numbers.iter().map(|&n| unsigned(n)).collect::<Vec<_>>());
+    let uint = |numbers: &[u64]| array(UINT64, &numbers.iter().map(|&n| unsigned(n)).collect::<Vec<_>>());
     let stopped = metric().with("Started", truth(false));
     let order = metric().with("Dedicated", uint(&[14, 9, 3]));
     let five = metric().with("Dedicated", uint(&[5, 5]));

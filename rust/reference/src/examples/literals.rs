@@ -3,6 +3,7 @@
 use super::setting::{array, octets, real32, real64, types, unsigned};
 use super::Example;
 use super::Expected::{Excluded, Included, Refused};
+use crate::kind::UINT64;
 
 pub fn examples() -> Vec<Example> {
     let mut out = integers();
@@ -176,6 +177,6 @@ fn places() -> Vec<Example> {
         ("U = 5 AND I = +99999999999999999999", Refused(23, 14)),
         ("Ds = {1.E22,1.E23}", Refused(23, 12)),
     ]);
-    out.extend(types().with("Us", array(2, &[])).ask(&[("EVERY Us = 99999999999999999999", Refused(23, 11))]));
+    out.extend(types().with("Us", array(UINT64, &[])).ask(&[("EVERY Us = 99999999999999999999", Refused(23, 11))]));
     out
 }

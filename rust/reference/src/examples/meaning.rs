@@ -3,6 +3,7 @@
 use super::setting::{array, char16, null, real32, real64, reference, text, truth, types, unsigned};
 use super::Example;
 use super::Expected::{Excluded, Included, Refused};
+use crate::kind::{REAL64, UINT64};
 
 pub fn examples() -> Vec<Example> {
     let mut out = nulls();
@@ -65,7 +66,7 @@ fn indexes() -> Vec<Example> {
         ("Us[0] <> 3", Included(1)),
         ("Us[0] > 3", Excluded(1)),
     ]));
-    let none = types().with("Us", array(2, &[null(), unsigned(4)]));
+    let none = types().with("Us", array(UINT64, &[null(), unsigned(4)]));
     out.extend(none.ask(&[("Us[0] = NULL", Included(1)), ("Us[1] = 4", Included(1)), ("Us[0] = Us[2]", Included(1))]));
     out
 }
@@ -86,7 +87,7 @@ fn integers_and_truth() -> Vec<Example> {
 }
 
 fn special_reals() -> Vec<Example> {
-    let of = |x: f64| types().with("D", real64(x)).with("Ds", array(5, &[real64(x)]));
+    let of = |x: f64| types().with("D", real64(x)).with("Ds", array(REAL64, &[real64(x)]));
     let mut out = of(f64::NAN).ask(&[
         ("D = D", Excluded(1)),
         ("D <> D", Included(1)),
@@ -205,7 +206,7 @@ fn arrays() -> Vec<Example> {
 }
 
 fn arrays_with_nulls() -> Vec<Example> {
-    let of = |elements: &[Vec<u8>]| types().with("Us", array(2, elements));
+    let of = |elements: &[Vec<u8>]| types().with("Us", array(UINT64, elements));
     let mut out = of(&[]).ask(&[
         ("Us = {}", Included(1)),
         ("Us <> {}", Excluded(1)),
@@ -261,7 +262,7 @@ fn quantifiers() -> Vec<Example> {
 }
 
 fn quantifiers_on_few_elements() -> Vec<Example> {
-    let mut out = types().with("Us", array(2, &[])).ask(&[
+    let mut out = types().with("Us", array(UINT64, &[])).ask(&[
         ("ANY Us = 3", Excluded(1)),
         ("EVERY Us = 3", Included(1)),
         ("NOT ANY Us = 3", Included(1)),
@@ -277,7 +278,7 @@ fn quantifiers_on_few_elements() -> Vec<Example> {
     ]));
     let mut many = vec![unsigned(1); 256];
     many[255] = unsigned(2);
-    out.extend(types().with("Us", array(2, &many)).ask(&[
+    out.extend(types().with("Us", array(UINT64, &many)).ask(&[
         ("ANY Us = 1", Included(2)),
         ("ANY Us = 2", Included(257)),
         ("ANY Us = 3", Excluded(257)),
@@ -289,7 +290,7 @@ fn quantifiers_on_few_elements() -> Vec<Example> {
 }
 
 fn quantifiers_and_nulls() -> Vec<Example> {
-    let mut out = types().with("Us", array(2, &[null()])).ask(&[
+    let mut out = types().with("Us", array(UINT64, &[null()])).ask(&[
         ("ANY Us <> 3", Included(2)),
         ("EVERY Us <> 3", Included(2)),
         ("ANY Us = NULL", Included(2)),
@@ -298,7 +299,7 @@ fn quantifiers_and_nulls() -> Vec<Example> {
         ("ANY Us < 3", Excluded(2)),
         ("NOT ANY Us >= 3", Included(2)),
     ]);
-    let both = types().with("Us", array(2, &[unsigned(3), null()]));
+    let both = types().with("Us", array(UINT64, &[unsigned(3), null()]));
     out.extend(both.with("U", null()).ask(&[
         ("ANY Us = U", Included(3)),
         ("EVERY Us <> U", Excluded(3)),

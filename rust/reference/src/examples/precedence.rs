@@ -3,6 +3,7 @@
 use super::setting::{null, sample, text, types, Setting};
 use super::Example;
 use super::Expected::{self, Included, Refused};
+use crate::kind::{BOOLEAN, CLASS, REAL32, SINT64, STRING, UINT64};
 use crate::record::write;
 
 pub fn examples() -> Vec<Example> {
@@ -23,7 +24,7 @@ fn asked(query: &[u8], table: Vec<u8>, instance: Vec<u8>, expected: Expected) ->
 
 fn tables_first() -> Vec<Example> {
     let long = vec![b'x'; 4_097];
-    let repeated = [sample().table(), write(1, b"on")].concat();
+    let repeated = [sample().table(), write(BOOLEAN, b"on")].concat();
     vec![
         asked(&long, vec![0; 8_193], vec![0; 65_536], Refused(2, 0)),
         asked(&long, vec![], vec![], Refused(2, 0)),
@@ -37,14 +38,14 @@ fn tables_first() -> Vec<Example> {
 /// The first property is at 5 and takes 5 bytes, as do the others.
 fn records_in_turn() -> Vec<Example> {
     let of = |records: &[Vec<u8>]| {
-        let table = [write(0x0200, b"C"), records.concat()].concat();
+        let table = [write(CLASS, b"C"), records.concat()].concat();
         (table, null().repeat(records.len()))
     };
-    let (repeated_then_bad, nulls) = of(&[write(1, b"a"), write(1, b"A"), write(99, b"b")]);
-    let (bad_then_repeated, _) = of(&[write(1, b"a"), write(99, b"b"), write(1, b"A")]);
-    let (both, _) = of(&[write(1, b"a"), write(99, b"A")]);
-    let (cut, _) = of(&[write(1, b"a"), write(2, b"A"), vec![1, 0, 1, 0]]);
-    let (thrice, _) = of(&[write(1, b"a"), write(2, b"b"), write(3, b"B"), write(4, b"A")]);
+    let (repeated_then_bad, nulls) = of(&[write(BOOLEAN, b"a"), write(BOOLEAN, b"A"), write(99, b"b")]);
+    let (bad_then_repeated, _) = of(&[write(BOOLEAN, b"a"), write(99, b"b"), write(BOOLEAN, b"A")]);
+    let (both, _) = of(&[write(BOOLEAN, b"a"), write(99, b"A")]);
+    let (cut, _) = of(&[write(BOOLEAN, b"a"), write(UINT64, b"A"), vec![1, 0, 1, 0]]);
+    let (thrice, _) = of(&[write(BOOLEAN, b"a"), write(UINT64, b"b"), write(SINT64, b"B"), write(REAL32, b"A")]);
     vec![
         asked(b"a = NULL", repeated_then_bad, nulls.clone(), Refused(3, 10)),
         asked(b"a = NULL", bad_then_repeated, nulls.clone(), Refused(2, 10)),
@@ -135,7 +136,7 @@ fn between_comparisons() -> Vec<Example> {
 
 fn instances_last() -> Vec<Example> {
     let (table, short, long) = (sample().table(), vec![0; 3], vec![0; 65_536]);
-    let missing = Setting::new("P", &[("S", 6, text("x"))]);
+    let missing = Setting::new("P", &[("S", STRING, text("x"))]);
     let mut out = vec![
         asked(b"Zed = 1", table.clone(), long.clone(), Refused(20, 0)),
         asked(b"Zed = 1", table.clone(), short.clone(), Refused(20, 0)),

@@ -1,6 +1,7 @@
 //! Files with what the program prints (01, "A fan to try", last part; 02, Q-1).
 
 use super::setting::{array, null, sample, text, truth, unsigned};
+use crate::kind::{INSTANCE, NULL, STRING, UINT64};
 use crate::program::Files;
 use crate::record::write;
 
@@ -22,7 +23,7 @@ fn tried(table: Vec<u8>, query: &[u8], run: Vec<u8>, expected: &'static str) -> 
 }
 
 fn run(bodies: &[Vec<u8>]) -> Vec<u8> {
-    bodies.iter().flat_map(|body| write(0x0300, body)).collect()
+    bodies.iter().flat_map(|body| write(INSTANCE, body)).collect()
 }
 
 /// The instances of 01's example.
@@ -66,7 +67,7 @@ fn answered() -> Vec<ProgramExample> {
     let on = sample().instance();
     let off = sample().with("On", truth(false)).instance();
     let long = sample().with("Name", text(&"n".repeat(60_000))).instance();
-    let many = sample().with("Dev", array(2, &vec![unsigned(9); 256])).instance();
+    let many = sample().with("Dev", array(UINT64, &vec![unsigned(9); 256])).instance();
     vec![
         tried("On = TRUE", sample_run(), OF_THE_SAMPLE),
         tried("Dev = {14,3}", sample_run(), "1 excluded 2\n2 failed 31\ntotal 2 0 1 1\n"),
@@ -88,7 +89,7 @@ fn refused_tables() -> Vec<ProgramExample> {
         tried(long(8_192), "refused 2 48\n"),
         tried(long(8_193), "refused 2 0\n"),
         tried(long(70_000), "refused 2 0\n"),
-        tried([sample().table(), write(6, b"TEMP")].concat(), "refused 3 48\n"),
+        tried([sample().table(), write(STRING, b"TEMP")].concat(), "refused 3 48\n"),
     ]
 }
 
@@ -119,7 +120,7 @@ fn runs() -> Vec<ProgramExample> {
     let tried = |query: &str, run, expected| tried(sample().table(), query.as_bytes(), run, expected);
     // One instance, 65,536 bytes with its four of length and kind.
     let longest = |more: usize| {
-        let padding = write(0, &vec![0; 65_536 - 4 - 95 - 4 - 4]);
+        let padding = write(NULL, &vec![0; 65_536 - 4 - 95 - 4 - 4]);
         [run(&[[sample().instance(), padding].concat()]), run(&[vec![]]), vec![0; more]].concat()
     };
     vec![

@@ -5,6 +5,9 @@ use super::setting::{
 };
 use super::Example;
 use super::Expected::{self, Excluded, Included, Refused};
+use crate::kind::{
+    ARRAY, BOOLEAN, CHAR16, CLASS, DATETIME, NULL, REAL32, REAL64, REFERENCE, SINT64, STRING, TYPES, UINT64,
+};
 use crate::record::write;
 
 pub fn examples() -> Vec<Example> {
@@ -53,21 +56,21 @@ fn further_properties() -> Vec<Example> {
         asked("On = TRUE", table, [sample().instance(), null()].concat(), expected)
     };
     let mut out = Vec::new();
-    for kind in 1..=10 {
+    for kind in TYPES {
         out.push(tried(kind, "x", Included(1)));
-        out.push(tried(kind | 0x0100, "x", Included(1)));
+        out.push(tried(ARRAY | kind, "x", Included(1)));
     }
     for kind in [0, 11, 0x0100, 0x010b, 0x0200, 0x0201, 0x0302, 0x1002, 0x0a01, 0xffff] {
         out.push(tried(kind, "x", Refused(2, 48)));
     }
     for name in ["_", "And", "NULL", "any", "P", "p", "x".repeat(64).as_str(), "_9", "Z_"] {
-        out.push(tried(6, name, Included(1)));
+        out.push(tried(STRING, name, Included(1)));
     }
     for name in ["", "1x", "\u{e9}", "a-b", "a b", "a.b", "x\0", "x".repeat(65).as_str()] {
-        out.push(tried(6, name, Refused(2, 48)));
+        out.push(tried(STRING, name, Refused(2, 48)));
     }
     for name in ["Temp", "TEMP", "tEMp", "on", "r"] {
-        out.push(tried(6, name, Refused(3, 48)));
+        out.push(tried(STRING, name, Refused(3, 48)));
     }
     out.push(tried(11, "Temp", Refused(2, 48)));
     out
@@ -75,7 +78,7 @@ fn further_properties() -> Vec<Example> {
 
 fn classes() -> Vec<Example> {
     let tried = |class: &str, expected| {
-        let table = [write(0x0200, class.as_bytes()), write(1, b"On")].concat();
+        let table = [write(CLASS, class.as_bytes()), write(BOOLEAN, b"On")].concat();
         asked("On = TRUE", table, truth(true), expected)
     };
     let mut out = Vec::new();
@@ -86,19 +89,20 @@ fn classes() -> Vec<Example> {
     {
         out.push(tried(class, Refused(2, 0)));
     }
-    out.push(asked("On = TRUE", [write(0x0201, b"P"), write(1, b"On")].concat(), truth(true), Refused(2, 0)));
+    out.push(asked("On = TRUE", [write(0x0201, b"P"), write(BOOLEAN, b"On")].concat(), truth(true), Refused(2, 0)));
     out
 }
 
 fn many_properties() -> Vec<Example> {
-    let table =
-        |n: usize| (0..n).fold(write(0x0200, b"C"), |out, i| [out, write(1, format!("p{i:03}").as_bytes())].concat());
+    let table = |n: usize| {
+        (0..n).fold(write(CLASS, b"C"), |out, i| [out, write(BOOLEAN, format!("p{i:03}").as_bytes())].concat())
+    };
     let nulls = null().repeat(129);
-    let repeated = [table(128), write(1, b"p000")].concat();
+    let repeated = [table(128), write(BOOLEAN, b"p000")].concat();
     let long = |last: usize| {
         let name = |i: usize| format!("{i:_>60}");
-        let many = (0..127).fold(write(0x0200, b"C"), |out, i| [out, write(6, name(i).as_bytes())].concat());
-        [many, write(6, "z".repeat(last).as_bytes())].concat()
+        let many = (0..127).fold(write(CLASS, b"C"), |out, i| [out, write(STRING, name(i).as_bytes())].concat());
+        [many, write(STRING, "z".repeat(last).as_bytes())].concat()
     };
     let last = "z".repeat(55);
     vec![
@@ -121,7 +125,7 @@ fn cut_instances() -> Vec<Example> {
         .collect();
     out.push(asked("On = TRUE", sample().table(), instance[..94].to_vec(), Refused(31, 83)));
     // A wrong value comes before a later record that is cut.
-    let wrong = sample().with("Temp", write(3, &[0; 7])).instance();
+    let wrong = sample().with("Temp", write(SINT64, &[0; 7])).instance();
     out.push(asked("On = TRUE", sample().table(), wrong[..89].to_vec(), Refused(31, 5)));
     out
 }
@@ -130,13 +134,13 @@ fn subclass_records() -> Vec<Example> {
     let tried =
         |tail: Vec<u8>, expected| asked("On = TRUE", sample().table(), [sample().instance(), tail].concat(), expected);
     vec![
-        tried(write(0, b"body"), Included(1)),
-        tried(write(0x0200, &[]), Included(1)),
-        tried([write(0xffff, &[1]), write(9, b"no datetime")].concat(), Included(1)),
+        tried(write(NULL, b"body"), Included(1)),
+        tried(write(CLASS, &[]), Included(1)),
+        tried([write(0xffff, &[1]), write(DATETIME, b"no datetime")].concat(), Included(1)),
         tried(vec![0], Refused(31, 95)),
         tried(vec![0, 0, 0], Refused(31, 95)),
         tried(vec![1, 0, 6, 0], Refused(31, 95)),
-        tried([write(7, &[0]), vec![9, 0, 0, 0, 0]].concat(), Refused(31, 100)),
+        tried([write(CHAR16, &[0]), vec![9, 0, 0, 0, 0]].concat(), Refused(31, 100)),
     ]
 }
 
@@ -149,25 +153,25 @@ fn wrong_records() -> Vec<Example> {
         _ => 83,
     };
     let wrong = [
-        ("On", write(1, &[2])),
-        ("On", write(1, &[])),
-        ("On", write(1, &[1, 1])),
-        ("On", write(2, &[1])),
-        ("On", write(0, &[1])),
-        ("On", write(0x0101, &[])),
-        ("Temp", write(3, &[0; 7])),
-        ("Temp", write(3, &[0; 9])),
+        ("On", write(BOOLEAN, &[2])),
+        ("On", write(BOOLEAN, &[])),
+        ("On", write(BOOLEAN, &[1, 1])),
+        ("On", write(UINT64, &[1])),
+        ("On", write(NULL, &[1])),
+        ("On", write(ARRAY | BOOLEAN, &[])),
+        ("Temp", write(SINT64, &[0; 7])),
+        ("Temp", write(SINT64, &[0; 9])),
         ("Temp", unsigned(5)),
-        ("Name", write(6, &[0xc0, 0x80])),
-        ("Name", write(6, &[0xed, 0xa0, 0x80])),
-        ("Name", write(6, &[0xf4, 0x90, 0x80, 0x80])),
-        ("Name", write(6, &[b'a', 0x80])),
-        ("Name", write(6, &[0xe2, 0x82])),
+        ("Name", write(STRING, &[0xc0, 0x80])),
+        ("Name", write(STRING, &[0xed, 0xa0, 0x80])),
+        ("Name", write(STRING, &[0xf4, 0x90, 0x80, 0x80])),
+        ("Name", write(STRING, &[b'a', 0x80])),
+        ("Name", write(STRING, &[0xe2, 0x82])),
         ("Name", reference("FAN_2")),
         ("Since", datetime("20050229000000.000000+000")),
         ("Since", datetime("20051003112233.000000+00")),
-        ("R", write(5, &[0; 4])),
-        ("R", write(4, &[0; 4])),
+        ("R", write(REAL64, &[0; 4])),
+        ("R", write(REAL32, &[0; 4])),
     ];
     wrong
         .into_iter()
@@ -178,23 +182,23 @@ fn wrong_records() -> Vec<Example> {
 fn wrong_arrays() -> Vec<Example> {
     let wrong = [
         unsigned(3),
-        write(0x0103, &[]),
+        write(ARRAY | SINT64, &[]),
         write(0x0202, &[]),
-        array(2, &[write(0x0102, &[])]),
-        array(2, &[signed(3)]),
-        array(2, &[write(2, &[0; 7])]),
-        array(2, &[write(0, &[0])]),
-        array(2, &[unsigned(3), vec![0]]),
-        array(2, &[unsigned(3), vec![1, 0, 2, 0]]),
-        array(2, &vec![null(); 257]),
-        array(2, &vec![unsigned(1); 257]),
+        array(UINT64, &[write(ARRAY | UINT64, &[])]),
+        array(UINT64, &[signed(3)]),
+        array(UINT64, &[write(UINT64, &[0; 7])]),
+        array(UINT64, &[write(NULL, &[0])]),
+        array(UINT64, &[unsigned(3), vec![0]]),
+        array(UINT64, &[unsigned(3), vec![1, 0, 2, 0]]),
+        array(UINT64, &vec![null(); 257]),
+        array(UINT64, &vec![unsigned(1); 257]),
     ];
     let mut out: Vec<Example> = wrong
         .into_iter()
         .flat_map(|record| sample().with("Dev", record).ask(&[("On = TRUE", Refused(31, 17))]))
         .collect();
-    out.extend(sample().with("Dev", array(2, &vec![null(); 256])).ask(&[("EVERY Dev = NULL", Included(257))]));
-    out.extend(sample().with("Dev", array(2, &[])).ask(&[("Dev = {}", Included(1))]));
+    out.extend(sample().with("Dev", array(UINT64, &vec![null(); 256])).ask(&[("EVERY Dev = NULL", Included(257))]));
+    out.extend(sample().with("Dev", array(UINT64, &[])).ask(&[("Dev = {}", Included(1))]));
     out.extend(sample().with("Dev", null()).ask(&[("Dev = {}", Excluded(1))]));
     out
 }
@@ -208,11 +212,11 @@ fn values_of_each_type() -> Vec<Example> {
     for unit in [0xd800, 0xdbff, 0xdc00, 0xdfff] {
         out.extend(types().with("C", char16(unit)).ask(&[("C <> NULL", Refused(31, 58))]));
     }
-    out.extend(types().with("C", write(7, &[0])).ask(&[("C <> NULL", Refused(31, 58))]));
+    out.extend(types().with("C", write(CHAR16, &[0])).ask(&[("C <> NULL", Refused(31, 58))]));
     for body in [&[][..], &[0xff], &[0; 5_000]] {
         out.extend(types().with("O", octets(body)).ask(&[("O <> NULL", Included(1))]));
     }
-    out.extend(types().with("K", write(10, &[0xff])).ask(&[("K <> NULL", Refused(31, 99))]));
+    out.extend(types().with("K", write(REFERENCE, &[0xff])).ask(&[("K <> NULL", Refused(31, 99))]));
     for value in ["", "\0", "\u{ffff}", "\t", "\u{10ffff}"] {
         out.extend(
             types().with("S", text(value)).with("K", reference(value)).ask(&[("S <> NULL AND K <> NULL", Included(2))]),

@@ -1,6 +1,7 @@
 //! Runs with the totals and marks that they give (01, after the list of causes; numbers 40 and 41).
 
 use super::setting::{sample, truth};
+use crate::kind::{BOOLEAN, INSTANCE, NULL};
 use crate::record::write;
 use crate::{Refusal, Totals};
 
@@ -34,7 +35,7 @@ fn off() -> Vec<u8> {
 }
 
 fn run(bodies: &[Vec<u8>]) -> Vec<u8> {
-    bodies.iter().flat_map(|body| write(0x0300, body)).collect()
+    bodies.iter().flat_map(|body| write(INSTANCE, body)).collect()
 }
 
 fn marked(run: Vec<u8>, marks: &[u8], totals: [u64; 3], left: &[u8]) -> RunExample {
@@ -71,7 +72,7 @@ fn good() -> Vec<RunExample> {
             &[1, 255, 255],
         ),
         // What stands in a run for an instance of another class.
-        marked(run(&[write(0x0300, &on()), write(0, &[]).repeat(6)]), &[7; 2], [0, 1, 1], &[255, 0]),
+        marked(run(&[write(INSTANCE, &on()), write(NULL, &[]).repeat(6)]), &[7; 2], [0, 1, 1], &[255, 0]),
     ]
 }
 
@@ -90,7 +91,7 @@ fn long() -> Vec<RunExample> {
 /// The check's refusal comes before 40 and 41, and no mark is written.
 fn refused_by_the_check() -> Vec<RunExample> {
     let mut out = Vec::new();
-    let twice = [sample().table(), write(1, b"ON")].concat();
+    let twice = [sample().table(), write(BOOLEAN, b"ON")].concat();
     let long = "x".repeat(4_097);
     for (query, table, number, place) in [
         ("On = TRUE", vec![], 2, 0),
@@ -137,8 +138,8 @@ fn undivided() -> Vec<RunExample> {
         (after(&[0, 0, 0, 0]), 198),
         (after(&[1, 0, 0, 3]), 198),
         (after(&[255, 255, 0, 3, 1]), 198),
-        ([write(0x0300, &on()), write(0, &[]), two.clone()].concat(), 99),
-        ([write(0x0300, &on()), write(1, &[]), vec![0]].concat(), 99),
+        ([write(INSTANCE, &on()), write(NULL, &[]), two.clone()].concat(), 99),
+        ([write(INSTANCE, &on()), write(BOOLEAN, &[]), vec![0]].concat(), 99),
     ] {
         out.push(refused(run.clone(), &[7, 8, 9, 10], 40, place));
         // 40 comes before 41.

@@ -1,6 +1,9 @@
 //! A class with its properties and an instance of it, as the examples need them.
 
 use super::{Example, Expected};
+use crate::kind::{
+    ARRAY, BOOLEAN, CHAR16, CLASS, DATETIME, NULL, OCTETS, REAL32, REAL64, REFERENCE, SINT64, STRING, UINT64,
+};
 use crate::record::write;
 
 /// The name, kind and record of a property.
@@ -27,7 +30,7 @@ impl Setting {
     }
 
     pub fn table(&self) -> Vec<u8> {
-        let mut out = write(0x0200, self.class.as_bytes());
+        let mut out = write(CLASS, self.class.as_bytes());
         for (name, kind, _) in &self.properties {
             out.extend(write(*kind, name.as_bytes()));
         }
@@ -54,12 +57,12 @@ pub fn sample() -> Setting {
     Setting::new(
         "P",
         &[
-            ("On", 1, truth(true)),
-            ("Temp", 3, signed(-5)),
-            ("Dev", 0x0102, array(2, &[unsigned(3), unsigned(14)])),
-            ("Name", 6, text("FAN_2")),
-            ("Since", 9, datetime("20051003112233.000000+000")),
-            ("R", 5, real64(0.5)),
+            ("On", BOOLEAN, truth(true)),
+            ("Temp", SINT64, signed(-5)),
+            ("Dev", ARRAY | UINT64, array(UINT64, &[unsigned(3), unsigned(14)])),
+            ("Name", STRING, text("FAN_2")),
+            ("Since", DATETIME, datetime("20051003112233.000000+000")),
+            ("R", REAL64, real64(0.5)),
         ],
     )
 }
@@ -69,79 +72,79 @@ pub fn types() -> Setting {
     Setting::new(
         "P",
         &[
-            ("B", 1, truth(true)),
-            ("U", 2, unsigned(5)),
-            ("I", 3, signed(-5)),
-            ("F", 4, real32(0.5)),
-            ("D", 5, real64(0.5)),
-            ("S", 6, text("FAN_2")),
-            ("C", 7, char16(u16::from(b'x'))),
-            ("O", 8, octets(&[1, 2])),
-            ("T", 9, datetime("20051003112233.000000+000")),
-            ("K", 10, reference("a/b")),
-            ("Bs", 0x0101, array(1, &[truth(true), truth(false)])),
-            ("Us", 0x0102, array(2, &[unsigned(3), unsigned(14)])),
-            ("Is", 0x0103, array(3, &[signed(-1), signed(2)])),
-            ("Fs", 0x0104, array(4, &[real32(0.5)])),
-            ("Ds", 0x0105, array(5, &[real64(0.5), real64(1.5)])),
-            ("Ss", 0x0106, array(6, &[text("a"), text("bc")])),
-            ("Cs", 0x0107, array(7, &[char16(u16::from(b'a'))])),
-            ("Os", 0x0108, array(8, &[octets(&[1]), octets(&[2, 3])])),
-            ("Ts", 0x0109, array(9, &[datetime("20051003112233.000000+000")])),
-            ("Ks", 0x010a, array(10, &[reference("k")])),
-            ("And", 2, unsigned(7)),
-            ("Any", 0x0102, array(2, &[unsigned(7)])),
-            ("Null", 6, text("n")),
-            ("_x1", 9, datetime("00000001000000.000000:000")),
+            ("B", BOOLEAN, truth(true)),
+            ("U", UINT64, unsigned(5)),
+            ("I", SINT64, signed(-5)),
+            ("F", REAL32, real32(0.5)),
+            ("D", REAL64, real64(0.5)),
+            ("S", STRING, text("FAN_2")),
+            ("C", CHAR16, char16(u16::from(b'x'))),
+            ("O", OCTETS, octets(&[1, 2])),
+            ("T", DATETIME, datetime("20051003112233.000000+000")),
+            ("K", REFERENCE, reference("a/b")),
+            ("Bs", ARRAY | BOOLEAN, array(BOOLEAN, &[truth(true), truth(false)])),
+            ("Us", ARRAY | UINT64, array(UINT64, &[unsigned(3), unsigned(14)])),
+            ("Is", ARRAY | SINT64, array(SINT64, &[signed(-1), signed(2)])),
+            ("Fs", ARRAY | REAL32, array(REAL32, &[real32(0.5)])),
+            ("Ds", ARRAY | REAL64, array(REAL64, &[real64(0.5), real64(1.5)])),
+            ("Ss", ARRAY | STRING, array(STRING, &[text("a"), text("bc")])),
+            ("Cs", ARRAY | CHAR16, array(CHAR16, &[char16(u16::from(b'a'))])),
+            ("Os", ARRAY | OCTETS, array(OCTETS, &[octets(&[1]), octets(&[2, 3])])),
+            ("Ts", ARRAY | DATETIME, array(DATETIME, &[datetime("20051003112233.000000+000")])),
+            ("Ks", ARRAY | REFERENCE, array(REFERENCE, &[reference("k")])),
+            ("And", UINT64, unsigned(7)),
+            ("Any", ARRAY | UINT64, array(UINT64, &[unsigned(7)])),
+            ("Null", STRING, text("n")),
+            ("_x1", DATETIME, datetime("00000001000000.000000:000")),
         ],
     )
 }
 
 pub fn null() -> Vec<u8> {
-    write(0, &[])
+    write(NULL, &[])
 }
 
 pub fn truth(x: bool) -> Vec<u8> {
-    write(1, &[u8::from(x)])
+    write(BOOLEAN, &[u8::from(x)])
 }
 
 pub fn unsigned(n: u64) -> Vec<u8> {
-    write(2, &n.to_le_bytes())
+    write(UINT64, &n.to_le_bytes())
 }
 
 pub fn signed(n: i64) -> Vec<u8> {
-    write(3, &n.to_le_bytes())
+    write(SINT64, &n.to_le_bytes())
 }
 
 pub fn real32(x: f32) -> Vec<u8> {
-    write(4, &x.to_le_bytes())
+    write(REAL32, &x.to_le_bytes())
 }
 
 pub fn real64(x: f64) -> Vec<u8> {
-    write(5, &x.to_le_bytes())
+    write(REAL64, &x.to_le_bytes())
 }
 
 pub fn text(s: &str) -> Vec<u8> {
-    write(6, s.as_bytes())
+    write(STRING, s.as_bytes())
 }
 
 pub fn char16(unit: u16) -> Vec<u8> {
-    write(7, &unit.to_le_bytes())
+    write(CHAR16, &unit.to_le_bytes())
 }
 
 pub fn octets(bytes: &[u8]) -> Vec<u8> {
-    write(8, bytes)
+    write(OCTETS, bytes)
 }
 
 pub fn datetime(s: &str) -> Vec<u8> {
-    write(9, s.as_bytes())
+    write(DATETIME, s.as_bytes())
 }
 
 pub fn reference(s: &str) -> Vec<u8> {
-    write(10, s.as_bytes())
+    write(REFERENCE, s.as_bytes())
 }
 
 /// An array of elements of this type.
 pub fn array(kind: u16, elements: &[Vec<u8>]) -> Vec<u8> {
-    write(kind | 0x0100, &elements.concat())
+    write(ARRAY | kind, &elements.concat())
 }

@@ -4,6 +4,7 @@
 use super::setting::{sample, text, types, unsigned, Setting};
 use super::Example;
 use super::Expected::{Excluded, Included, Refused};
+use crate::kind::UINT64;
 
 pub fn examples() -> Vec<Example> {
     let mut out = grammar();
@@ -294,7 +295,7 @@ fn names_and_classes() -> Vec<Example> {
         ("Us[0] = Nope[1]", Refused(20, 8)),
         ("U = 5 AND Nope LIKE 'x'", Refused(20, 10)),
     ]);
-    let same = Setting::new("P", &[("P", 2, unsigned(5))]);
+    let same = Setting::new("P", &[("P", UINT64, unsigned(5))]);
     out.extend(same.ask(&[
         ("P = 5", Included(1)),
         ("P.P = 5", Included(1)),

@@ -3,6 +3,7 @@
 use super::setting::{array, null, real64, sample, signed, text, types, unsigned};
 use super::Example;
 use super::Expected::{Excluded, Included, Refused};
+use crate::kind::{SINT64, UINT64};
 
 pub fn examples() -> Vec<Example> {
     let mut out = negative_numbers();
@@ -29,7 +30,7 @@ fn negative_numbers() -> Vec<Example> {
         ("U = 18446744073709551611", Included(1)),
         ("I = 18446744073709551611", Excluded(1)),
     ]));
-    let (wide, narrow) = (array(2, &[unsigned(u64::MAX)]), array(3, &[signed(-1)]));
+    let (wide, narrow) = (array(UINT64, &[unsigned(u64::MAX)]), array(SINT64, &[signed(-1)]));
     out.extend(types().with("Us", wide).with("Is", narrow).ask(&[
         ("Us = Is", Excluded(2)),
         ("Us[0] > Is[0]", Included(1)),

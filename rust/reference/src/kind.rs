@@ -1,0 +1,34 @@
+//! The kinds of records by name (01, "Records"). A property's kind is its type, and for an array of it `ARRAY` more.
+
+pub const NULL: u16 = 0;
+pub const BOOLEAN: u16 = 1;
+pub const UINT64: u16 = 2;
+pub const SINT64: u16 = 3;
+pub const REAL32: u16 = 4;
+pub const REAL64: u16 = 5;
+pub const STRING: u16 = 6;
+pub const CHAR16: u16 = 7;
+pub const OCTETS: u16 = 8;
+pub const DATETIME: u16 = 9;
+pub const REFERENCE: u16 = 10;
+
+pub const ARRAY: u16 = 0x0100;
+pub const CLASS: u16 = 0x0200;
+pub const INSTANCE: u16 = 0x0300;
+
+/// The types that a table may name.
+pub const TYPES: [u16; 10] = [BOOLEAN, UINT64, SINT64, REAL32, REAL64, STRING, CHAR16, OCTETS, DATETIME, REFERENCE];
+
+pub fn is_array(kind: u16) -> bool {
+    kind & ARRAY != 0
+}
+
+/// The type of a property's values, an array's being that of its elements.
+pub fn type_of(kind: u16) -> u16 {
+    kind & !ARRAY
+}
+
+/// Whether a table may have a property of this kind.
+pub fn is_of_a_table(kind: u16) -> bool {
+    TYPES.contains(&type_of(kind))
+}
