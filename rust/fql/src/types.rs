@@ -1,11 +1,10 @@
 //! The types of values. A property's kind is its type, and for an array of it [`ARRAY`](crate::record::ARRAY) more.
+//!
+//! Of an integer's type the last hex digit is the number of its body's bytes, and the digit before it is 1 without a
+//! sign and 2 with one. Any two integers may be compared, as whole numbers.
 
 /// One byte, 0 or 1.
 pub const BOOLEAN: u16 = 1;
-/// An unsigned integer of 8 bytes.
-pub const UINT64: u16 = 2;
-/// A signed integer of 8 bytes, in two's complement.
-pub const SINT64: u16 = 3;
 /// A real number of 4 bytes, IEEE 754.
 pub const REAL32: u16 = 4;
 /// A real number of 8 bytes, IEEE 754.
@@ -20,3 +19,19 @@ pub const OCTETS: u16 = 8;
 pub const DATETIME: u16 = 9;
 /// A reference to an instance, in UTF-8.
 pub const REFERENCE: u16 = 10;
+/// An unsigned integer of one byte.
+pub const UINT8: u16 = 0x0011;
+/// An unsigned integer of 2 bytes.
+pub const UINT16: u16 = 0x0012;
+/// An unsigned integer of 4 bytes.
+pub const UINT32: u16 = 0x0014;
+/// An unsigned integer of 8 bytes.
+pub const UINT64: u16 = 0x0018;
+/// A signed integer of one byte, in two's complement.
+pub const SINT8: u16 = 0x0021;
+/// A signed integer of 2 bytes, in two's complement.
+pub const SINT16: u16 = 0x0022;
+/// A signed integer of 4 bytes, in two's complement.
+pub const SINT32: u16 = 0x0024;
+/// A signed integer of 8 bytes, in two's complement.
+pub const SINT64: u16 = 0x0028;

@@ -56,6 +56,11 @@ fn of_rows_operators_and_shapes() {
 }
 
 #[test]
+fn of_integer_widths() {
+    hold(examples::widths::examples());
+}
+
+#[test]
 fn of_comparisons_and_steps() {
     hold(examples::meaning::examples());
 }
@@ -83,7 +88,7 @@ fn of_the_order_of_refusals() {
 /// Each section above is one of all.
 #[test]
 fn no_section_is_left_out() {
-    assert_eq!(examples::all().len(), 13);
+    assert_eq!(examples::all().len(), 14);
 }
 
 #[test]

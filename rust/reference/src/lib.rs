@@ -8,6 +8,7 @@ pub mod evaluate;
 pub mod examples;
 pub mod fault_text;
 pub mod instance;
+pub mod integer;
 pub mod kind;
 pub mod literal;
 pub mod mark;

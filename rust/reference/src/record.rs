@@ -1,10 +1,9 @@
 //! Records, tables and instances, read with the standard library's slices.
 
-use crate::datetime;
 use crate::kind::{
-    is_of_a_table, type_of, BOOLEAN, CHAR16, CLASS, DATETIME, NULL, OCTETS, REAL32, REAL64, REFERENCE, SINT64, STRING,
-    UINT64,
+    is_of_a_table, type_of, BOOLEAN, CHAR16, CLASS, DATETIME, INTEGERS, NULL, OCTETS, REAL32, REAL64, REFERENCE, STRING,
 };
+use crate::{datetime, integer};
 
 pub const LENGTH_OF_TABLE: usize = 8_192;
 pub const LENGTH_OF_INSTANCE: usize = 65_535;
@@ -106,12 +105,13 @@ impl Table {
 fn is_value(kind: u16, body: &[u8]) -> bool {
     match kind {
         BOOLEAN => matches!(body, [0] | [1]),
-        UINT64 | SINT64 | REAL64 => body.len() == 8,
         REAL32 => body.len() == 4,
+        REAL64 => body.len() == 8,
         STRING | REFERENCE => std::str::from_utf8(body).is_ok(),
         CHAR16 => body.len() == 2 && char::from_u32(u32::from(u16::from_le_bytes([body[0], body[1]]))).is_some(),
         OCTETS => true,
         DATETIME => datetime::parse(body).is_some(),
+        _ if INTEGERS.contains(&kind) => integer::read(kind, body).is_some(),
         _ => {
             let (elements, broken) = read(body);
             let fits = |r: &Record| is_slot(type_of(kind), r);

@@ -1,11 +1,10 @@
 //! Values, the rows of types that may meet, and how two values compare (01, "Kinds" and "Meaning").
 
-use crate::kind::{
-    type_of, BOOLEAN, CHAR16, DATETIME, NULL, OCTETS, REAL32, REAL64, REFERENCE, SINT64, STRING, UINT64,
-};
 use std::cmp::Ordering;
 
 use crate::datetime::{self, Datetime};
+use crate::integer;
+use crate::kind::{type_of, BOOLEAN, CHAR16, DATETIME, INTEGERS, NULL, OCTETS, REAL32, REAL64, REFERENCE, STRING};
 use crate::token::Operator;
 
 #[derive(Clone, Debug, PartialEq)]
@@ -21,7 +20,7 @@ pub enum Value {
     Datetime(Datetime),
 }
 
-/// The rows of DSP0212's Table 1 as 01 lists them: {1} {2,3} {4,5} {6,7} {8} {9} {10}.
+/// The rows of DSP0212's Table 1 as 01 lists them, {1} {4,5} {6,7} {8} {9} {10}, and 02's one row for all integers.
 #[derive(Clone, Copy, Debug, PartialEq, Eq)]
 pub enum Row {
     Truth,
@@ -38,12 +37,12 @@ impl Row {
     pub fn of(kind: u16) -> Row {
         match type_of(kind) {
             BOOLEAN => Row::Truth,
-            UINT64 | SINT64 => Row::Integer,
             REAL32 | REAL64 => Row::Real,
             STRING | CHAR16 => Row::Text,
             OCTETS => Row::Octets,
             DATETIME => Row::Datetime,
             REFERENCE => Row::Reference,
+            other if INTEGERS.contains(&other) => Row::Integer,
             other => panic!("no table has the type {other}"),
         }
     }
@@ -59,8 +58,6 @@ impl Value {
         match kind {
             NULL => Value::Null,
             BOOLEAN => Value::Truth(body[0] == 1),
-            UINT64 => Value::Integer(i128::from(u64::from_le_bytes(body.try_into().unwrap()))),
-            SINT64 => Value::Integer(i128::from(i64::from_le_bytes(body.try_into().unwrap()))),
             REAL32 => Value::Real(f64::from(f32::from_le_bytes(body.try_into().unwrap()))),
             REAL64 => Value::Real(f64::from_le_bytes(body.try_into().unwrap())),
             STRING => Value::Text(String::from_utf8(body.to_vec()).unwrap()),
@@ -70,6 +67,7 @@ impl Value {
             }
             OCTETS | REFERENCE => Value::Bytes(body.to_vec()),
             DATETIME => Value::Datetime(datetime::parse(body).unwrap()),
+            _ if INTEGERS.contains(&kind) => Value::Integer(integer::read(kind, body).unwrap()),
             other => panic!("no scalar has the kind {other}"),
         }
     }

@@ -1,12 +1,13 @@
 //! Instances beside a reader over the standard library's slices: 31 with its place, and where each record starts.
 
 use fql::record::{write, ARRAY, NULL};
-use fql::types::{BOOLEAN, CHAR16, DATETIME, OCTETS, REAL32, REFERENCE, STRING};
+use fql::types::{BOOLEAN, CHAR16, DATETIME, OCTETS, REAL32, REAL64, REFERENCE, STRING};
 use reference::random::{for_each_seed, Random};
 use reference::record::{check_instance, read, Property, Record, Table};
 
 use crate::seen::Seen;
 use crate::tables::{asks_for_null, random_table};
+use crate::widths::bytes_of;
 
 fn body(r: &mut Random, kind: u16) -> Vec<u8> {
     let word = r.word().to_le_bytes();
@@ -22,7 +23,9 @@ fn body(r: &mut Random, kind: u16) -> Vec<u8> {
             let text = if r.chance(4) { "19000229000000.000000+000" } else { r.pick(&texts) };
             text.as_bytes().to_vec()
         }
-        _ => word.to_vec(),
+        REAL64 => word.to_vec(),
+        // Sometimes of another length.
+        other => word[..if r.chance(8) { r.below(9) } else { bytes_of(other).unwrap() }].to_vec(),
     }
 }
 

@@ -19,3 +19,4 @@ mod seen;
 mod tables;
 mod tokens;
 mod unicode;
+mod widths;

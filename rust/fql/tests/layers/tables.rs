@@ -2,14 +2,21 @@
 //! each name of a good table finds.
 
 use fql::record::{write, ARRAY, CLASS, NULL};
-use fql::types::{BOOLEAN, CHAR16, DATETIME, OCTETS, REAL32, REAL64, REFERENCE, SINT64, STRING, UINT64};
+use fql::types::{
+    BOOLEAN, CHAR16, DATETIME, OCTETS, REAL32, REAL64, REFERENCE, SINT16, SINT32, SINT64, SINT8, STRING, UINT16,
+    UINT32, UINT64, UINT8,
+};
 use reference::random::{for_each_seed, Random};
 use reference::record::{is_reserved, Property, Table};
 
 use crate::ask::{mark_of, marks, refusal};
 use crate::seen::Seen;
+use crate::widths::bytes_of;
 
-const TYPES: [u16; 10] = [BOOLEAN, UINT64, SINT64, REAL32, REAL64, STRING, CHAR16, OCTETS, DATETIME, REFERENCE];
+const TYPES: [u16; 16] = [
+    BOOLEAN, REAL32, REAL64, STRING, CHAR16, OCTETS, DATETIME, REFERENCE, UINT8, UINT16, UINT32, UINT64, SINT8, SINT16,
+    SINT32, SINT64,
+];
 
 pub fn table_of(class: &str, properties: &[(String, u16)]) -> Vec<u8> {
     properties
@@ -33,11 +40,11 @@ pub fn random_table(r: &mut Random) -> Vec<u8> {
 fn some_value(kind: u16) -> Vec<u8> {
     let body: &[u8] = match kind & !ARRAY {
         BOOLEAN => &[1],
-        UINT64 | SINT64 | REAL64 => &[0; 8],
         REAL32 => &[0; 4],
+        REAL64 => &[0; 8],
         CHAR16 => &[0; 2],
         DATETIME => b"00000101000000.000000+000",
-        _ => b"",
+        other => &[0; 8][..bytes_of(other).unwrap_or(0)],
     };
     match kind & ARRAY {
         0 => write(kind, body),
@@ -99,10 +106,24 @@ fn random_and_damaged_tables() {
     for_each_seed(tables);
 }
 
-/// Every kind there could be: 2 but for the ten types, alone and in arrays.
+/// The kinds that a property may have: of 01 and of 02, Q-2.
+const ACCEPTED: [u16; 32] = [
+    0x0001, 0x0004, 0x0005, 0x0006, 0x0007, 0x0008, 0x0009, 0x000a, // each type but the integers
+    0x0011, 0x0012, 0x0014, 0x0018, 0x0021, 0x0022, 0x0024, 0x0028, // the integers
+    0x0101, 0x0104, 0x0105, 0x0106, 0x0107, 0x0108, 0x0109, 0x010a, // arrays of these
+    0x0111, 0x0112, 0x0114, 0x0118, 0x0121, 0x0122, 0x0124, 0x0128,
+];
+
+/// Every kind there could be, between two properties: 2 at its record, which starts at 15, but for those above.
 #[test]
 fn every_kind() {
     let mut seen = Seen::default();
-    (0..=u16::MAX).for_each(|kind| hold(&table_of("C", &[("a".to_owned(), kind)]), &mut seen));
-    seen.assert_at_least(&[("good", 20), ("2", 65_516)]);
+    for kind in 0..=u16::MAX {
+        let property = |name: &str, kind: u16| (name.to_owned(), kind);
+        let table = table_of("C", &[property("before", BOOLEAN), property("a", kind), property("after", kind)]);
+        let expected = (!ACCEPTED.contains(&kind)).then_some((2, 15));
+        assert_eq!(refusal(b"before = TRUE", &table), expected, "{kind:#06x}");
+        hold(&table, &mut seen);
+    }
+    seen.assert_at_least(&[("good", 32), ("2", 65_504)]);
 }

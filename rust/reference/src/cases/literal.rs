@@ -3,6 +3,7 @@
 use super::datetime;
 use super::tokens::in_any_case;
 use super::value;
+use crate::integer;
 use crate::kind::TYPES;
 use crate::random::Random;
 use crate::value::{Row, Value};
@@ -41,11 +42,15 @@ pub fn truth(r: &mut Random, x: bool) -> String {
 fn near_integer(r: &mut Random, kind: u16, body: &[u8]) -> String {
     let Value::Integer(n) = Value::decode(kind, body) else { unreachable!() };
     let most = i128::from(u64::MAX);
-    let moved = match r.below(6) {
+    let (lowest, highest) = integer::range(kind);
+    // Numbers that stand so far apart have the same bytes at this width.
+    let modulus = highest - lowest + 1;
+    let moved = match r.below(7) {
         0 => n + 1,
         1 => n - 1,
         2 => -n,
         3 if r.chance(6) => r.pick(&[most, -most, most - 1, 1 - most, i128::from(i64::MIN) - 1]),
+        4 => n + r.pick(&[modulus, -modulus]),
         _ => n,
     };
     integer(r, moved.clamp(-most, most))

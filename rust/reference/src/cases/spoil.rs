@@ -3,8 +3,8 @@
 use super::source::Source;
 use super::{comparison, datetime, table as tables, tokens, value, Case, Intended};
 use crate::kind::{
-    is_array, type_of, ARRAY, BOOLEAN, CHAR16, CLASS, DATETIME, NULL, OCTETS, REAL32, REAL64, REFERENCE, SINT64,
-    STRING, UINT64,
+    is_array, is_of_a_table, type_of, ARRAY, BOOLEAN, CHAR16, CLASS, DATETIME, INTEGERS, NULL, OCTETS, REAL32, REAL64,
+    REFERENCE, STRING,
 };
 use crate::random::Random;
 use crate::record::{read, write};
@@ -44,7 +44,7 @@ fn faulty_table(r: &mut Random, s: &Source) -> (Vec<u8>, u64, u64) {
         }
         1 => ([before, write(kind, bad_name(r).as_bytes()), after].concat(), 2, place),
         2 => {
-            let kind = r.pick(&[0, 11, 0x00ff, 0x0100, 0x010b, 0x0200, 0x0201, 0x1002, 0xffff]);
+            let kind = unknown_kind(r);
             ([before, write(kind, b"fresh"), after].concat(), 2, place)
         }
         3 => {
@@ -64,6 +64,23 @@ fn faulty_table(r: &mut Random, s: &Source) -> (Vec<u8>, u64, u64) {
             ([write(kind, &name), bytes[4 + name.len()..].to_vec()].concat(), 2, 0)
         }
         _ => (if r.chance(2) { vec![] } else { bytes.repeat(8_193 / bytes.len() + 1) }, 2, 0),
+    }
+}
+
+/// A kind that no property has: among others those of 01's integers, and ones near those of 02.
+fn unknown_kind(r: &mut Random) -> u16 {
+    let near = [
+        0x0000, 0x0002, 0x0003, 0x000b, 0x0010, 0x0013, 0x0019, 0x0020, 0x0023, 0x0031, 0x0038, 0x0081, 0x00ff, 0x0100,
+        0x0102, 0x0103, 0x010b, 0x0113, 0x0131, 0x0200, 0x0201, 0x0211, 0x0318, 0x1002, 0x1011, 0x1128, 0xffff,
+    ];
+    match r.chance(2) {
+        true => r.pick(&near),
+        false => loop {
+            let kind = r.word() as u16 & r.pick(&[0xffff, 0x01ff]);
+            if !is_of_a_table(kind) {
+                return kind;
+            }
+        },
     }
 }
 
@@ -128,7 +145,7 @@ fn wrong_record(r: &mut Random, kind: u16) -> Vec<u8> {
 fn wrong_body(r: &mut Random, kind: u16) -> Vec<u8> {
     match kind {
         BOOLEAN => r.pick(&[&[2][..], &[255], &[], &[1, 0]]).to_vec(),
-        UINT64 | SINT64 | REAL64 => vec![1; r.pick(&[0, 4, 7, 9, 16])],
+        REAL64 => vec![1; r.pick(&[0, 4, 7, 9, 16])],
         REAL32 => vec![1; r.pick(&[0, 3, 5, 8])],
         STRING | REFERENCE => {
             let bad = r.pick(&[
@@ -146,7 +163,25 @@ fn wrong_body(r: &mut Random, kind: u16) -> Vec<u8> {
             false => vec![0x61; r.pick(&[0, 1, 3])],
         },
         DATETIME => datetime::malformed(r).into_bytes(),
+        _ if INTEGERS.contains(&kind) => another_length(r, kind),
         other => panic!("{other} has no wrong body"),
+    }
+}
+
+/// A body of another length than the integer type's: one byte short or long, none, or another type's.
+fn another_length(r: &mut Random, kind: u16) -> Vec<u8> {
+    let good = value::body(r, kind);
+    match r.below(4) {
+        0 => good[1..].to_vec(),
+        1 => [&good[..], &[r.pick(&[0, 0xff])]].concat(),
+        2 => Vec::new(),
+        _ => loop {
+            let other = r.pick(&INTEGERS);
+            let body = value::body(r, other);
+            if body.len() != good.len() {
+                return body;
+            }
+        },
     }
 }
 

@@ -1,10 +1,11 @@
-//! How the cases of a run are spread over answers, refusals and forms of comparison.
+//! How the cases of a run are spread over answers, refusals, forms of comparison and kinds of operands.
 
-use crate::kind::is_array;
 use std::collections::BTreeMap;
 
+use super::operands::Operands;
 use super::Case;
 use crate::check::{self, find};
+use crate::kind::is_array;
 use crate::syntax::{Comparison, Operation, Quantifier, Right};
 use crate::{Answer, Refusal};
 
@@ -35,6 +36,7 @@ pub struct Spread {
     pub forms: BTreeMap<&'static str, usize>,
     /// Queries of one comparison, included and excluded.
     pub single: BTreeMap<&'static str, [usize; 2]>,
+    pub operands: Operands,
 }
 
 /// The form of a comparison; one with an index is of that form, unless it is a LIKE.
@@ -69,7 +71,9 @@ impl Spread {
             let array = find(&case.query, &table, &c.left).is_some_and(|(_, kind)| is_array(kind));
             let form = form(c, array);
             *self.forms.entry(form).or_default() += 1;
-            if comparisons.len() == 1 {
+            let alone = comparisons.len() == 1;
+            self.operands.add(&case.query, &table, c, alone.then_some(answer.included));
+            if alone {
                 self.single.entry(form).or_default()[verdict] += 1;
             }
         }
@@ -81,10 +85,11 @@ impl Spread {
         println!("included {}, excluded {}", self.verdicts[0], self.verdicts[1]);
         println!("comparisons of evaluated queries, by form: {:?}", self.forms);
         println!("queries of one comparison, [included, excluded]: {:?}", self.single);
+        println!("comparisons and queries of one, by side and kind: {}", self.operands);
     }
 
-    /// Every number, verdict and form comes up at least so often; a form alone in a query with each verdict a third as
-    /// often.
+    /// Every number, verdict, form and kind of operand comes up at least so often; a form alone in a query with each
+    /// verdict a third as often.
     pub fn assert_at_least(&self, least: usize) {
         for number in NUMBERS {
             let n = self.refusals.get(&number).copied().unwrap_or(0);
@@ -97,5 +102,6 @@ impl Spread {
             let single = self.single.get(form).copied().unwrap_or([0, 0]);
             assert!(single.iter().all(|&n| 3 * n >= least), "{form} alone: {single:?}");
         }
+        self.operands.assert_at_least(least);
     }
 }

@@ -1,8 +1,9 @@
 //! Random values as records, and random instances.
 
 use super::datetime;
+use crate::integer;
 use crate::kind::{
-    is_array, type_of, ARRAY, BOOLEAN, CHAR16, CLASS, DATETIME, NULL, OCTETS, REAL32, REAL64, REFERENCE, SINT64,
+    is_array, type_of, ARRAY, BOOLEAN, CHAR16, CLASS, DATETIME, INTEGERS, NULL, OCTETS, REAL32, REAL64, REFERENCE,
     STRING, UINT64,
 };
 use crate::random::Random;
@@ -35,14 +36,22 @@ fn from_set<T: Copy>(r: &mut Random, often: &[T], otherwise: T) -> T {
     }
 }
 
-fn unsigned(r: &mut Random) -> u64 {
-    let any = r.word();
-    from_set(r, &[0, 1, 2, 3, 5, 14, 255, 65_536, 1 << 32, i64::MAX as u64, 1 << 63, u64::MAX - 4, u64::MAX], any)
-}
-
-fn signed(r: &mut Random) -> i64 {
-    let any = r.word() as i64;
-    from_set(r, &[0, 1, -1, 2, 3, -5, 5, 14, -255, 1 << 32, i64::MIN, i64::MIN + 1, i64::MAX], any)
+/// A number of an integer type: at one of its borders, at another type's, a small one, or any.
+fn integer(r: &mut Random, kind: u16) -> Vec<u8> {
+    let (lowest, highest) = integer::range(kind);
+    let often = [lowest, lowest, lowest + 1, -1, -1, 0, 0, 1, 2, 3, -5, 5, 14, highest - 1, highest, highest];
+    loop {
+        let other = integer::range(r.pick(&INTEGERS));
+        let near = [other.0, other.0 - 1, other.1, other.1 + 1];
+        let n = match r.below(8) {
+            0 | 1 => lowest + i128::from(r.word()) % (highest - lowest + 1),
+            2 => r.pick(&near),
+            _ => r.pick(&often),
+        };
+        if let Some(body) = integer::write(kind, n) {
+            return body;
+        }
+    }
 }
 
 fn real32(r: &mut Random) -> f32 {
@@ -117,8 +126,6 @@ fn char16(r: &mut Random) -> u16 {
 pub fn body(r: &mut Random, kind: u16) -> Vec<u8> {
     match kind {
         BOOLEAN => vec![r.below(2) as u8],
-        UINT64 => unsigned(r).to_le_bytes().to_vec(),
-        SINT64 => signed(r).to_le_bytes().to_vec(),
         REAL32 => real32(r).to_le_bytes().to_vec(),
         REAL64 => real64(r).to_le_bytes().to_vec(),
         STRING => text(r).into_bytes(),
@@ -129,6 +136,7 @@ pub fn body(r: &mut Random, kind: u16) -> Vec<u8> {
         }
         DATETIME => datetime::text(r).into_bytes(),
         REFERENCE => r.pick(&["", "a/b", "root/cimv2:C.k=1", "A/b", "\u{e9}"]).as_bytes().to_vec(),
+        _ if INTEGERS.contains(&kind) => integer(r, kind),
         other => panic!("{other} is no plain type"),
     }
 }

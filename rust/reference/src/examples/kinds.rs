@@ -4,7 +4,7 @@ use super::setting::{null, sample, types};
 use super::Example;
 use super::Expected::{self, Accepted, Excluded, Included, Refused};
 
-/// A property of each type in order; its array has an `s` after it.
+/// A property of each type in order, of the integers those of 8 bytes; its array has an `s` after it.
 const NAMES: [&str; 10] = ["B", "U", "I", "F", "D", "S", "C", "O", "T", "K"];
 const ROWS: [&str; 7] = ["B", "UI", "FD", "SC", "O", "T", "K"];
 const ORDERED: &str = "UIFDT";

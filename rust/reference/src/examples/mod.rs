@@ -17,6 +17,7 @@ pub mod runs;
 pub mod sample;
 pub mod setting;
 pub mod text;
+pub mod widths;
 pub mod wrong_turns;
 
 use crate::{Answer, Refusal};
@@ -64,6 +65,7 @@ pub fn all() -> Vec<(&'static str, Vec<Example>)> {
         ("limits", limits::examples()),
         ("literals", literals::examples()),
         ("kinds", kinds::examples()),
+        ("widths", widths::examples()),
         ("meaning", meaning::examples()),
         ("joins", joins::examples()),
         ("datetimes", datetimes::examples()),

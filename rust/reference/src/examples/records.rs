@@ -49,6 +49,13 @@ fn whole_tables() -> Vec<Example> {
     ]
 }
 
+/// 01's kinds of integers, and others that are no type: of no number of bytes, of no sign, with more added to an array.
+const UNKNOWN: [u16; 32] = [
+    0x0000, 0x0002, 0x0003, 0x000b, 0x0010, 0x0013, 0x0015, 0x0016, 0x0017, 0x0019, 0x0020, 0x0023, 0x0029, 0x0031,
+    0x0038, 0x0041, 0x0081, 0x0100, 0x0102, 0x0103, 0x010b, 0x0113, 0x0131, 0x0200, 0x0201, 0x0211, 0x0302, 0x0a01,
+    0x1002, 0x1011, 0x1128, 0xffff,
+];
+
 /// A seventh property, at 48, and NULL for it.
 fn further_properties() -> Vec<Example> {
     let tried = |kind: u16, name: &str, expected| {
@@ -60,7 +67,7 @@ fn further_properties() -> Vec<Example> {
         out.push(tried(kind, "x", Included(1)));
         out.push(tried(ARRAY | kind, "x", Included(1)));
     }
-    for kind in [0, 11, 0x0100, 0x010b, 0x0200, 0x0201, 0x0302, 0x1002, 0x0a01, 0xffff] {
+    for kind in UNKNOWN {
         out.push(tried(kind, "x", Refused(2, 48)));
     }
     for name in ["_", "And", "NULL", "any", "P", "p", "x".repeat(64).as_str(), "_9", "Z_"] {
@@ -72,7 +79,9 @@ fn further_properties() -> Vec<Example> {
     for name in ["Temp", "TEMP", "tEMp", "on", "r"] {
         out.push(tried(STRING, name, Refused(3, 48)));
     }
-    out.push(tried(11, "Temp", Refused(2, 48)));
+    // 2 comes before 3.
+    out.push(tried(0x0002, "Temp", Refused(2, 48)));
+    out.push(tried(0x000b, "Temp", Refused(2, 48)));
     out
 }
 
@@ -189,7 +198,7 @@ fn wrong_arrays() -> Vec<Example> {
         array(UINT64, &[write(UINT64, &[0; 7])]),
         array(UINT64, &[write(NULL, &[0])]),
         array(UINT64, &[unsigned(3), vec![0]]),
-        array(UINT64, &[unsigned(3), vec![1, 0, 2, 0]]),
+        array(UINT64, &[unsigned(3), vec![1, 0, 0x18, 0]]),
         array(UINT64, &vec![null(); 257]),
         array(UINT64, &vec![unsigned(1); 257]),
     ];

@@ -29,6 +29,14 @@ impl Setting {
         out
     }
 
+    /// The same with another kind and record for one property.
+    pub fn of_kind(&self, name: &str, kind: u16, record: Vec<u8>) -> Setting {
+        let mut out = self.with(name, record);
+        let property = out.properties.iter_mut().find(|p| p.0 == name);
+        property.unwrap_or_else(|| panic!("no property {name}")).1 = kind;
+        out
+    }
+
     pub fn table(&self) -> Vec<u8> {
         let mut out = write(CLASS, self.class.as_bytes());
         for (name, kind, _) in &self.properties {
@@ -52,7 +60,7 @@ impl Setting {
     }
 }
 
-/// The class of 01's example.
+/// The class of 01's example, its integers of 02's types.
 pub fn sample() -> Setting {
     Setting::new(
         "P",
@@ -67,7 +75,7 @@ pub fn sample() -> Setting {
     )
 }
 
-/// A class with a scalar and an array of each type, and with reserved words for names.
+/// A class with a scalar and an array of each type, of the integers those of 8 bytes, and with reserved words for names.
 pub fn types() -> Setting {
     Setting::new(
         "P",
