@@ -15,6 +15,7 @@ pub mod spread;
 mod table;
 mod tokens;
 mod value;
+pub mod widened;
 mod wrong;
 
 use crate::queries;

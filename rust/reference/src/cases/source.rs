@@ -32,7 +32,7 @@ fn held(kind: u16, record: &Record) -> Held {
 }
 
 impl Source {
-    fn new(r: &mut Random, table: Table) -> Source {
+    pub fn new(r: &mut Random, table: Table) -> Source {
         let instance = value::instance(r, &table);
         let held = table.properties.iter().zip(read(&instance).0).map(|(p, record)| held(p.kind, &record)).collect();
         Source { table, instance, held }

@@ -1,6 +1,6 @@
 //! Random tables.
 
-use crate::kind::{ARRAY, TYPES};
+use crate::kind::{ARRAY, INTEGERS, TYPES};
 use crate::random::Random;
 use crate::record::{is_reserved, Property, Table};
 
@@ -90,6 +90,14 @@ pub fn of_all_types(r: &mut Random) -> Table {
     }
     let more = r.below(5);
     filled(r, &kinds, more)
+}
+
+/// A table of a few properties, most of them integers and arrays of these.
+pub fn of_integers(r: &mut Random) -> Table {
+    let n = 1 + r.below(5);
+    let kinds: Vec<u16> =
+        (0..n).map(|_| if r.chance(5) { kind(r) } else { r.pick(&INTEGERS) | r.pick(&[0, ARRAY]) }).collect();
+    filled(r, &kinds, 0)
 }
 
 pub fn with_names(r: &mut Random, names: &[&str]) -> Table {
