@@ -120,7 +120,7 @@ fn every_kind() {
     let mut seen = Seen::default();
     for kind in 0..=u16::MAX {
         let property = |name: &str, kind: u16| (name.to_owned(), kind);
-        let table = table_of("C", &[property("before", BOOLEAN), property("a", kind), property("after", kind)]);
+        let table = table_of("C", &[property("before", BOOLEAN), property("a", kind), property("after", BOOLEAN)]);
         let expected = (!ACCEPTED.contains(&kind)).then_some((2, 15));
         assert_eq!(refusal(b"before = TRUE", &table), expected, "{kind:#06x}");
         hold(&table, &mut seen);

@@ -33,12 +33,12 @@ pub struct Pair {
     pub changes: Changes,
 }
 
-/// What stands in the properties whose type is another, by number; and whether the subclass's records are others.
+/// How many properties have another type, what stands in these, and in how many pairs the subclass's records differ.
 #[derive(Clone, Copy, Debug, Default)]
 pub struct Changes {
     pub scalars: usize,
     pub arrays: usize,
-    /// Into more bytes, of any sign; into fewer; and into as many of another sign.
+    /// Into more bytes, into fewer, and into as many with or without the sign.
     pub wider: usize,
     pub narrower: usize,
     pub of_another_sign: usize,

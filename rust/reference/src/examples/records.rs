@@ -6,7 +6,7 @@ use super::setting::{
 use super::Example;
 use super::Expected::{self, Excluded, Included, Refused};
 use crate::kind::{
-    ARRAY, BOOLEAN, CHAR16, CLASS, DATETIME, NULL, REAL32, REAL64, REFERENCE, SINT64, STRING, TYPES, UINT64,
+    ARRAY, BOOLEAN, CHAR16, CLASS, DATETIME, NULL, REAL32, REAL64, REFERENCE, SINT64, STRING, TYPES, UINT32, UINT64,
 };
 use crate::record::write;
 
@@ -192,7 +192,8 @@ fn wrong_arrays() -> Vec<Example> {
     let wrong = [
         unsigned(3),
         write(ARRAY | SINT64, &[]),
-        write(0x0202, &[]),
+        write(ARRAY | UINT32, &[]),
+        write(0x0218, &[]),
         array(UINT64, &[write(ARRAY | UINT64, &[])]),
         array(UINT64, &[signed(3)]),
         array(UINT64, &[write(UINT64, &[0; 7])]),
