@@ -24,11 +24,16 @@ static inline void put_text(buffer *out, unsigned kind, const char *text) {
     put_record(out, kind, text, strlen(text));
 }
 
-/* An integer, or the bits of a real. */
-static inline void put_word(buffer *out, unsigned kind, uint64_t word) {
+/* An integer, or the bits of a real, in so many bytes. */
+static inline void put_word(buffer *out, unsigned kind, uint64_t word, size_t width) {
     uint8_t body[8];
-    for (int n = 0; n < 8; n++) body[n] = (uint8_t)(word >> (8 * n));
-    put_record(out, kind, body, 8);
+    for (size_t n = 0; n < width; n++) body[n] = (uint8_t)(word >> (8 * n));
+    put_record(out, kind, body, width);
+}
+
+/* The last hex digit of an integer's type is the number of its bytes. A negative value is given as (uint64_t)-5. */
+static inline void put_integer(buffer *out, unsigned type, uint64_t value) {
+    put_word(out, type, value, type & 0x0F);
 }
 
 #endif

@@ -19,14 +19,14 @@ static inline buffer sample_table(void) {
 
 static inline buffer sample_instance(int on) {
     buffer elements = {{0}, 0}, instance = {{0}, 0};
-    put_word(&elements, FQL_TYPE_UINT64, 3);
-    put_word(&elements, FQL_TYPE_UINT64, 14);
+    put_integer(&elements, FQL_TYPE_UINT64, 3);
+    put_integer(&elements, FQL_TYPE_UINT64, 14);
     put_record(&instance, FQL_TYPE_BOOLEAN, (uint8_t[]){on != 0}, 1);
-    put_word(&instance, FQL_TYPE_SINT64, (uint64_t)-5);
+    put_integer(&instance, FQL_TYPE_SINT64, (uint64_t)-5);
     put_record(&instance, FQL_TYPE_ARRAY | FQL_TYPE_UINT64, elements.bytes, elements.length);
     put_text(&instance, FQL_TYPE_STRING, "FAN_2");
     put_text(&instance, FQL_TYPE_DATETIME, "20051003112233.000000+000");
-    put_word(&instance, FQL_TYPE_REAL64, 0x3fe0000000000000); /* 0.5 */
+    put_word(&instance, FQL_TYPE_REAL64, 0x3fe0000000000000, 8); /* 0.5 */
     return instance;
 }
 

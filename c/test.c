@@ -115,6 +115,85 @@ static void refusals_of_tables_and_instances(void) {
     EXPECT(is_failure(fql_evaluate(query, 9, table.bytes, table.length, zeros, 65536), FQL_INSTANCE_LENGTH, 0));
 }
 
+static const unsigned integer_types[] = {FQL_TYPE_UINT8, FQL_TYPE_UINT16, FQL_TYPE_UINT32, FQL_TYPE_UINT64,
+                                         FQL_TYPE_SINT8, FQL_TYPE_SINT16, FQL_TYPE_SINT32, FQL_TYPE_SINT64};
+
+/* A class with one property X, whose record starts at 5. */
+static buffer table_of(unsigned kind) {
+    buffer table = {{0}, 0};
+    put_text(&table, FQL_RECORD_CLASS, "P");
+    put_text(&table, kind, "X");
+    return table;
+}
+
+static fql_answer evaluate_integer(const char *query, unsigned type, uint64_t value) {
+    buffer table = table_of(type), instance = {{0}, 0};
+    put_integer(&instance, type, value);
+    return evaluate(query, &table, &instance);
+}
+
+static void kinds_of_integers(void) {
+    buffer null = {{0}, 0};
+    put_record(&null, FQL_RECORD_NULL, "", 0);
+    for (size_t n = 0; n < sizeof integer_types / sizeof integer_types[0]; n++) {
+        buffer scalar = table_of(integer_types[n]), array = table_of(FQL_TYPE_ARRAY | integer_types[n]);
+        EXPECT(is_refusal(check("X = 1", &scalar), 0, 0));
+        EXPECT(is_refusal(check("ANY X = 1", &array), 0, 0));
+        EXPECT(is_refusal(check("X = .5", &scalar), FQL_KIND, 0));
+        EXPECT(is_answer(evaluate("X = NULL", &scalar, &null), 1, 1));
+    }
+    const unsigned none[] = {2, 3, 0x0102, 0x0103, 0x0010, 0x0013, 0x0019, 0x0020, 0x0023, 0x0031, 0x0218};
+    for (size_t n = 0; n < sizeof none / sizeof none[0]; n++) {
+        buffer table = table_of(none[n]);
+        EXPECT(is_refusal(check("X = 1", &table), FQL_TABLE, 5));
+    }
+}
+
+static void values_of_integers(void) {
+    buffer bytes = table_of(FQL_TYPE_UINT8);
+    EXPECT(is_refusal(check("X = 300", &bytes), 0, 0));
+    EXPECT(is_answer(evaluate_integer("X = -1", FQL_TYPE_SINT8, 0xFF), 1, 1));
+    EXPECT(is_answer(evaluate_integer("X = 255", FQL_TYPE_SINT8, 0xFF), 0, 1));
+    EXPECT(is_answer(evaluate_integer("X = 255", FQL_TYPE_UINT8, 0xFF), 1, 1));
+    EXPECT(is_answer(evaluate_integer("X = -1", FQL_TYPE_UINT8, 0xFF), 0, 1));
+    EXPECT(is_answer(evaluate_integer("X = 300", FQL_TYPE_UINT8, 300 & 0xFF), 0, 1));
+    EXPECT(is_answer(evaluate_integer("X = -32768", FQL_TYPE_SINT16, 0x8000), 1, 1));
+    EXPECT(is_answer(evaluate_integer("X = 258", FQL_TYPE_UINT16, 0x0102), 1, 1));
+    EXPECT(is_answer(evaluate_integer("X = -2147483648", FQL_TYPE_SINT32, 0x80000000), 1, 1));
+    EXPECT(is_answer(evaluate_integer("X = 4294967295", FQL_TYPE_UINT32, 0xFFFFFFFF), 1, 1));
+    EXPECT(is_answer(evaluate_integer("X = -9223372036854775808", FQL_TYPE_SINT64, UINT64_C(1) << 63), 1, 1));
+    EXPECT(is_answer(evaluate_integer("X = 18446744073709551615", FQL_TYPE_UINT64, UINT64_MAX), 1, 1));
+}
+
+/* All integers are of one row, and meet as whole numbers whatever their widths. */
+static void integers_of_two_types(void) {
+    buffer table = table_of(FQL_TYPE_SINT8), instance = {{0}, 0};
+    put_text(&table, FQL_TYPE_UINT64, "Y");
+    put_integer(&instance, FQL_TYPE_SINT8, (uint64_t)-1);
+    put_integer(&instance, FQL_TYPE_UINT64, UINT64_MAX);
+    EXPECT(is_answer(evaluate("X = Y", &table, &instance), 0, 1));
+    EXPECT(is_answer(evaluate("X < Y", &table, &instance), 1, 1));
+}
+
+/* The second of two records has a body of each length; as an element, one of another length lets the array fail. */
+static void integers_of_another_length(void) {
+    for (size_t n = 0; n < sizeof integer_types / sizeof integer_types[0]; n++) {
+        unsigned type = integer_types[n];
+        size_t width = type & 0x0F;
+        buffer table = table_of(type), arrays = table_of(FQL_TYPE_ARRAY | type);
+        put_text(&table, type, "Y");
+        for (size_t length = 0; length <= 9; length++) {
+            buffer instance = {{0}, 0}, array = {{0}, 0};
+            put_integer(&instance, type, 1);
+            put_record(&instance, type, "\1\0\0\0\0\0\0\0\0", length);
+            put_record(&array, FQL_TYPE_ARRAY | type, instance.bytes, instance.length);
+            fql_answer scalar = evaluate("X = Y", &table, &instance), every = evaluate("EVERY X = 1", &arrays, &array);
+            EXPECT(length == width ? is_answer(scalar, 1, 1) : is_failure(scalar, FQL_INSTANCE, 4 + width));
+            EXPECT(length == width ? is_answer(every, 1, 3) : is_failure(every, FQL_INSTANCE, 0));
+        }
+    }
+}
+
 static int is_totals(fql_totals found, uint64_t included, uint64_t excluded, uint64_t failed) {
     int counted = found.included == included && found.excluded == excluded && found.failed == failed;
     return counted && found.number == 0 && found.place == 0;
@@ -198,6 +277,10 @@ int main(void) {
     sample_answers();
     refusals_of_queries();
     refusals_of_tables_and_instances();
+    kinds_of_integers();
+    values_of_integers();
+    integers_of_two_types();
+    integers_of_another_length();
     marks_of_a_run();
     marks_of_a_refused_call();
     parts_at_faults();

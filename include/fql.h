@@ -29,19 +29,26 @@ enum fql_record {
 /* The types, with the bodies of their values. A table has a record for each property after that of the class: its kind
    is the type, plus FQL_TYPE_ARRAY for an array, and its body is the name. An instance has a record for each property
    in the table's order: of the same kind, with the value as body, or NULL. An array's body is a record for each
-   element: of the type without FQL_TYPE_ARRAY, or NULL. */
+   element: of the type without FQL_TYPE_ARRAY, or NULL. The last hex digit of an integer's type is the number of its
+   bytes; they are stored least byte first, and signed ones in two's complement. */
 enum fql_type {
-    FQL_TYPE_BOOLEAN = 1,    /* one byte, 0 or 1 */
-    FQL_TYPE_UINT64 = 2,     /* 8 bytes, least byte first */
-    FQL_TYPE_SINT64 = 3,     /* the same in two's complement */
-    FQL_TYPE_REAL32 = 4,     /* 4 bytes, IEEE 754, least byte first */
-    FQL_TYPE_REAL64 = 5,     /* 8 bytes, likewise */
-    FQL_TYPE_STRING = 6,     /* UTF-8 */
-    FQL_TYPE_CHAR16 = 7,     /* 2 bytes, least byte first: a character up to U+FFFF, no surrogate */
-    FQL_TYPE_OCTETS = 8,     /* any bytes */
-    FQL_TYPE_DATETIME = 9,   /* 25 bytes: a timestamp or an interval in the text form of DSP0004 */
-    FQL_TYPE_REFERENCE = 10, /* UTF-8 */
-    FQL_TYPE_ARRAY = 0x0100  /* what an array adds to the type of its elements */
+    FQL_TYPE_BOOLEAN = 1,     /* one byte, 0 or 1 */
+    FQL_TYPE_UINT8 = 0x0011,  /* unsigned integers of 1, 2, 4 and 8 bytes */
+    FQL_TYPE_UINT16 = 0x0012,
+    FQL_TYPE_UINT32 = 0x0014,
+    FQL_TYPE_UINT64 = 0x0018,
+    FQL_TYPE_SINT8 = 0x0021,  /* signed integers of 1, 2, 4 and 8 bytes */
+    FQL_TYPE_SINT16 = 0x0022,
+    FQL_TYPE_SINT32 = 0x0024,
+    FQL_TYPE_SINT64 = 0x0028,
+    FQL_TYPE_REAL32 = 4,      /* 4 bytes, IEEE 754, least byte first */
+    FQL_TYPE_REAL64 = 5,      /* 8 bytes, likewise */
+    FQL_TYPE_STRING = 6,      /* UTF-8 */
+    FQL_TYPE_CHAR16 = 7,      /* 2 bytes, least byte first: a character up to U+FFFF, no surrogate */
+    FQL_TYPE_OCTETS = 8,      /* any bytes */
+    FQL_TYPE_DATETIME = 9,    /* 25 bytes: a timestamp or an interval in the text form of DSP0004 */
+    FQL_TYPE_REFERENCE = 10,  /* UTF-8 */
+    FQL_TYPE_ARRAY = 0x0100   /* what an array adds to the type of its elements */
 };
 
 /* The numbers of refusals, in the order in which the causes are tried. Number 0 means that nothing is refused. */
