@@ -3,12 +3,13 @@
 //! A text is a table and the instances of a run:
 //!
 //! - `class NAME` opens the table. Below it, indented, stands a property on each line, `NAME TYPE` or `NAME TYPE[]`,
-//!   with one of the types boolean, unsigned, signed, real32, real64, string, char16, octets, datetime, reference.
+//!   with one of the types boolean, uint8, uint16, uint32, uint64, sint8, sint16, sint32, sint64, real32, real64,
+//!   string, char16, octets, datetime, reference.
 //! - `instance` opens an instance. Below it, indented, stand values, `NAME = VALUE`, in the table's order; one that
 //!   ends early is an instance with fewer records.
 //! - Values are `TRUE`, `-5`, `0.5`, `'text'` with the escapes of a query, `0x0102` for octets, `{3, NULL}` for an
 //!   array, and `NULL`. A real that isn't finite is written by its bits, as `0x7FF0000000000000`.
-//! - `record 0x0102 0A0B` is a record by its kind and body, in place of a property, a value or an instance;
+//! - `record 0x0118 0A0B` is a record by its kind and body, in place of a property, a value or an instance;
 //!   `bytes 0A0B` are bytes that are no record, at the end of a table, an instance or the run. With `table` in place of
 //!   `class` a table starts without a class. So every file has a text, malformed ones included.
 //! - `#` starts a comment.
@@ -17,14 +18,14 @@
 //! let text = "\
 //! class P
 //!     On   boolean
-//!     Dev  unsigned[]
+//!     Dev  uint64[]
 //! instance
 //!     On  = TRUE
 //!     Dev = {3, 14}
 //! instance
 //! ";
 //! let files = fqlrec::read(text.as_bytes()).unwrap();
-//! assert_eq!(files.table, b"\x01\0\0\x02P\x02\0\x01\0On\x03\0\x02\x01Dev");
+//! assert_eq!(files.table, b"\x01\0\0\x02P\x02\0\x01\0On\x03\0\x18\x01Dev");
 //! assert_eq!(fqlrec::show(&files), text);
 //! ```
 
@@ -32,6 +33,7 @@ mod columns;
 mod explain;
 mod faulty;
 mod hex;
+mod integer;
 mod line;
 mod place;
 mod problem;

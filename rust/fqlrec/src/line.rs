@@ -65,6 +65,11 @@ impl<'a> Line<'a> {
         &rest[..rest.find(|c| !is_of_word(c)).unwrap_or(rest.len())]
     }
 
+    /// A run of letters, digits, signs and points, of which numbers are written, perhaps none.
+    pub fn numeral(&mut self) -> &'a str {
+        self.take_while(|c| c.is_ascii_alphanumeric() || matches!(c, '+' | '-' | '.'))
+    }
+
     /// Whether this stands here; it is then passed.
     pub fn take(&mut self, text: &str) -> bool {
         let found = self.rest().starts_with(text);

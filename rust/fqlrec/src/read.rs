@@ -117,7 +117,7 @@ fn read_name<'a>(line: &mut Line<'a>) -> Result<&'a str, Problem> {
     }
 }
 
-/// `Temp signed`, `record 0x0102 0A0B` or `bytes 0A0B`. A property may be called record or bytes: a type follows then.
+/// `Temp sint64`, `record 0x0118 0A0B` or `bytes 0A0B`. A property may be called record or bytes: a type follows then.
 fn table_line(mut line: Line, table: &mut Records) -> Result<(), Problem> {
     table.expect_open(&line)?;
     let name = read_name(&mut line)?;
@@ -131,7 +131,7 @@ fn table_line(mut line: Line, table: &mut Records) -> Result<(), Problem> {
     line.expect_end()
 }
 
-/// `Temp = -5`, `record 0x0102 0A0B` or `bytes 0A0B`.
+/// `Temp = -5`, `record 0x0118 0A0B` or `bytes 0A0B`.
 fn instance_line(mut line: Line, properties: &[Option<Property>], body: &mut Records) -> Result<(), Problem> {
     body.expect_open(&line)?;
     let start = line.offset();

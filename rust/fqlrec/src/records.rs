@@ -27,7 +27,7 @@ impl Records {
         self.count += 1;
     }
 
-    /// `record 0x0102 0A0B`, after its first word.
+    /// `record 0x0118 0A0B`, after its first word.
     pub fn raw_record(&mut self, mut line: Line) -> Result<(), Problem> {
         self.expect_open(&line)?;
         let kind = hex::read_number(&mut line, 4)? as u16;

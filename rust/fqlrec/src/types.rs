@@ -1,15 +1,22 @@
-//! The words for the types, and for arrays of them.
+//! The words for the types, as CIM has them, and for arrays of them.
 
 use fql::record::ARRAY;
-use fql::types::{BOOLEAN, CHAR16, DATETIME, OCTETS, REAL32, REAL64, REFERENCE, SINT64, STRING, UINT64};
+use fql::types::{BOOLEAN, CHAR16, DATETIME, OCTETS, REAL32, REAL64, REFERENCE, STRING};
+use fql::types::{SINT16, SINT32, SINT64, SINT8, UINT16, UINT32, UINT64, UINT8};
 
 use crate::line::Line;
 use crate::problem::Problem;
 
-const WORDS: [(&str, u16); 10] = [
+const WORDS: [(&str, u16); 16] = [
     ("boolean", BOOLEAN),
-    ("unsigned", UINT64),
-    ("signed", SINT64),
+    ("uint8", UINT8),
+    ("uint16", UINT16),
+    ("uint32", UINT32),
+    ("uint64", UINT64),
+    ("sint8", SINT8),
+    ("sint16", SINT16),
+    ("sint32", SINT32),
+    ("sint64", SINT64),
     ("real32", REAL32),
     ("real64", REAL64),
     ("string", STRING),

@@ -3,8 +3,9 @@
 use std::str::FromStr;
 
 use fql::record::{self, ARRAY, NULL};
-use fql::types::{BOOLEAN, CHAR16, DATETIME, OCTETS, REAL32, REAL64, REFERENCE, SINT64, STRING, UINT64};
+use fql::types::{BOOLEAN, CHAR16, DATETIME, OCTETS, REAL32, REAL64, REFERENCE, STRING};
 
+use crate::integer::Integer;
 use crate::line::Line;
 use crate::problem::Problem;
 use crate::records::expect_short;
@@ -29,14 +30,15 @@ fn show_array(plain: u16, body: &[u8]) -> Option<String> {
 }
 
 fn show_scalar(kind: u16, body: &[u8]) -> Option<String> {
+    if let Some(integer) = Integer::of(kind) {
+        return integer.show(body);
+    }
     match kind {
         BOOLEAN => match body {
             [0] => Some("FALSE".to_owned()),
             [1] => Some("TRUE".to_owned()),
             _ => None,
         },
-        UINT64 => Some(u64::from_le_bytes(body.try_into().ok()?).to_string()),
-        SINT64 => Some(i64::from_le_bytes(body.try_into().ok()?).to_string()),
         REAL32 => {
             let x = f32::from_le_bytes(body.try_into().ok()?);
             Some(if x.is_finite() { format!("{x:?}") } else { format!("0x{:08X}", x.to_bits()) })
@@ -86,6 +88,9 @@ fn read_array(line: &mut Line, plain: u16) -> Result<Vec<u8>, Problem> {
 }
 
 fn read_scalar(line: &mut Line, kind: u16) -> Result<Vec<u8>, Problem> {
+    if let Some(integer) = Integer::of(kind) {
+        return integer.read(line);
+    }
     let start = line.offset();
     match kind {
         BOOLEAN => match line.word() {
@@ -93,11 +98,6 @@ fn read_scalar(line: &mut Line, kind: u16) -> Result<Vec<u8>, Problem> {
             "FALSE" => Ok(vec![0]),
             _ => Err(line.problem_at(start, "TRUE, FALSE or NULL is needed here".to_owned())),
         },
-        UINT64 => Ok(number::<u64>(line, "a whole number from 0 to 18446744073709551615")?.to_le_bytes().to_vec()),
-        SINT64 => {
-            let what = "a whole number from -9223372036854775808 to 9223372036854775807";
-            Ok(number::<i64>(line, what)?.to_le_bytes().to_vec())
-        }
         REAL32 if line.rest().starts_with("0x") => Ok((hex::read_number(line, 8)? as u32).to_le_bytes().to_vec()),
         REAL64 if line.rest().starts_with("0x") => Ok(hex::read_number(line, 16)?.to_le_bytes().to_vec()),
         REAL32 => Ok(real(line, "8", f32::is_finite)?.to_le_bytes().to_vec()),
@@ -108,20 +108,15 @@ fn read_scalar(line: &mut Line, kind: u16) -> Result<Vec<u8>, Problem> {
     }
 }
 
-fn number<T: FromStr>(line: &mut Line, what: &str) -> Result<T, Problem> {
-    let start = line.offset();
-    let word = line.take_while(|c| c.is_ascii_alphanumeric() || matches!(c, '+' | '-' | '.'));
-    word.parse().map_err(|_| line.problem_at(start, format!("{what} is needed here")))
-}
-
 /// A finite number; what isn't one is written by its bits.
 fn real<T: FromStr + Copy>(line: &mut Line, digits: &str, is_finite: fn(T) -> bool) -> Result<T, Problem> {
     let start = line.offset();
-    let what = format!("a number that is finite, or `0x` and the bits in {digits} hex digits,");
-    let found: T = number(line, &what)?;
-    match is_finite(found) {
-        true => Ok(found),
-        false => Err(line.problem_at(start, format!("{what} is needed here"))),
+    match line.numeral().parse() {
+        Ok(found) if is_finite(found) => Ok(found),
+        _ => {
+            let what = "a number that is finite, or `0x` and the bits in";
+            Err(line.problem_at(start, format!("{what} {digits} hex digits, is needed here")))
+        }
     }
 }
 

@@ -12,7 +12,7 @@ use reference::record::write;
 const TEXT: &str = "\
 class P
     On    boolean
-    Temp  signed
+    Temp  sint64
     Name  string
 instance
     On   = TRUE
@@ -109,6 +109,7 @@ fn records_of_the_table() {
     let (temp, unknown) = (write(STRING, b"TEMP"), write(11, b"x"));
     assert_eq!(details(&with(&temp)), "table, record 5, at byte 27:\n    TEMP  string\n");
     assert_eq!(details(&with(&unknown)), "table, record 5, at byte 27:\n    record 0x000B 78\n");
+    assert_eq!(details(&with(&write(2, b"x"))), "table, record 5, at byte 27:\n    record 0x0002 78\n");
     assert_eq!(
         details(&with(&[5, 0, 1, 0, b'x'])),
         "table, record 5, at byte 27:\n    bytes 0500010078 (a body of 5 bytes, 1 present)\n"
@@ -138,7 +139,7 @@ fn records_of_the_run() {
 
 #[test]
 fn instances_that_fail() {
-    let text = format!("{TEXT}instance\n On = TRUE\n record 0x0003 00\ninstance\n On = NULL\ninstance\n bytes 01\n");
+    let text = format!("{TEXT}instance\n On = TRUE\n record 0x0028 00\ninstance\n On = NULL\ninstance\n bytes 01\n");
     let Files { table, run } = read(text.as_bytes()).unwrap();
     let explanation = explain(b"On = TRUE", &table, &run);
     assert!(explanation.accepted);
@@ -150,10 +151,10 @@ fn instances_that_fail() {
 accepted
 1 included, 0 excluded, 3 failed
 instance 2, at byte 30 of the run: refused 31 at 5: {words}
-    asked for: Temp  signed
-    found:     record 0x0003 00
+    asked for: Temp  sint64
+    found:     record 0x0028 00
 instance 3, at byte 44 of the run: refused 31 at 4: {words}
-    asked for: Temp  signed
+    asked for: Temp  sint64
     found:     nothing, the bytes end here
 instance 4, at byte 52 of the run: refused 31 at 0: {words}
     asked for: On  boolean

@@ -1,7 +1,8 @@
 //! Bytes to text and back give the same bytes, whatever they are; text to bytes and back gives the normal form.
 
 use fql::record::{ARRAY, CLASS, INSTANCE, NULL};
-use fql::types::{BOOLEAN, CHAR16, DATETIME, OCTETS, REAL32, REAL64, REFERENCE, SINT64, STRING, UINT64};
+use fql::types::{BOOLEAN, CHAR16, DATETIME, OCTETS, REAL32, REAL64, REFERENCE, STRING};
+use fql::types::{SINT16, SINT32, SINT64, SINT8, UINT16, UINT32, UINT64, UINT8};
 use fqlrec::{read, show, Files};
 use reference::cases::{self, run};
 use reference::examples::setting::{sample, types};
@@ -53,11 +54,13 @@ fn of_random_and_damaged_instances() {
     for_each_seed(instances);
 }
 
+/// Bytes of which lengths, kinds and names are made.
+const SMALL: [u8; 19] = [0, 0, 0, 0, 1, 2, 3, 6, 8, 0x11, 0x12, 0x14, 0x18, 0x21, 0x22, 0x24, 0x28, b'A', b'_'];
+
 fn bytes(r: &mut Random) {
     let bytes = |r: &mut Random| -> Vec<u8> {
         let n = r.below(40);
-        // Small numbers, so that lengths and kinds often fit.
-        (0..n).map(|_| if r.chance(3) { r.byte() } else { r.pick(&[0, 0, 0, 1, 2, 3, 6, 8, b'A', b'_']) }).collect()
+        (0..n).map(|_| if r.chance(3) { r.byte() } else { r.pick(&SMALL) }).collect()
     };
     for _ in 0..5_000 {
         let (table, run, body) = (bytes(r), bytes(r), bytes(r));
@@ -74,10 +77,11 @@ fn of_random_bytes() {
 
 /// Each record of the instance, with random bodies of the right and of the wrong length.
 fn values(r: &mut Random) {
-    let kinds = [BOOLEAN, UINT64, SINT64, REAL32, REAL64, STRING, CHAR16, OCTETS, DATETIME, REFERENCE];
-    for _ in 0..5_000 {
-        let kind = r.pick(&kinds);
-        let n = r.pick(&[0, 1, 2, 4, 8, 8, 8, 25]);
+    let integers = [UINT8, UINT16, UINT32, UINT64, SINT8, SINT16, SINT32, SINT64];
+    let others = [BOOLEAN, REAL32, REAL64, STRING, CHAR16, OCTETS, DATETIME, REFERENCE, 2, 3];
+    for _ in 0..8_000 {
+        let kind = if r.chance(2) { r.pick(&integers) } else { r.pick(&others) };
+        let n = r.pick(&[0, 1, 1, 2, 2, 3, 4, 4, 8, 8, 9, 25]);
         let body: Vec<u8> = (0..n).map(|_| if r.chance(2) { r.byte() } else { r.pick(&[0, 1, 0x7f, 0xff]) }).collect();
         let scalar = write(kind, &body);
         let array = write(kind | ARRAY, &[scalar.clone(), write(NULL, &[]), scalar.clone()].concat());

@@ -9,8 +9,8 @@ use reference::record::write;
 const SAMPLE: &str = "\
 class P
     On     boolean
-    Temp   signed
-    Dev    unsigned[]
+    Temp   sint64
+    Dev    uint64[]
     Name   string
     Since  datetime
     R      real64
@@ -27,8 +27,8 @@ instance
 const TYPES: &str = "\
 class P
     B     boolean
-    U     unsigned
-    I     signed
+    U     uint64
+    I     sint64
     F     real32
     D     real64
     S     string
@@ -37,8 +37,8 @@ class P
     T     datetime
     K     reference
     Bs    boolean[]
-    Us    unsigned[]
-    Is    signed[]
+    Us    uint64[]
+    Is    sint64[]
     Fs    real32[]
     Ds    real64[]
     Ss    string[]
@@ -46,8 +46,8 @@ class P
     Os    octets[]
     Ts    datetime[]
     Ks    reference[]
-    And   unsigned
-    Any   unsigned[]
+    And   uint64
+    Any   uint64[]
     Null  string
     _x1   datetime
 instance
@@ -98,12 +98,12 @@ fn of_every_type() {
 /// A text in any layout becomes the normal form.
 #[test]
 fn of_another_layout() {
-    let text = "# a table\r\n\r\nclass P # its class\r\n\tOn boolean\r\n Dev   unsigned [ ] # numbers\n\n\
+    let text = "# a table\r\n\r\nclass P # its class\r\n\tOn boolean\r\n Dev   uint64 [ ] # numbers\n\n\
                 instance# one\n  ON=TRUE\n\n# between\n\tdev = { 3,14 , NULL }\ninstance\n On = NULL # none\n Dev = {}";
     let normal = "\
 class P
     On   boolean
-    Dev  unsigned[]
+    Dev  uint64[]
 instance
     On  = TRUE
     Dev = {3, 14, NULL}
@@ -129,11 +129,11 @@ fn shown(kind: &str, text: &str) -> String {
 
 #[test]
 fn of_integers() {
-    assert_eq!(value("unsigned", "18446744073709551615"), [255; 8]);
-    assert_eq!(value("unsigned", "258"), [2, 1, 0, 0, 0, 0, 0, 0]);
-    assert_eq!(value("signed", "-1"), [255; 8]);
-    assert_eq!(value("signed", "-9223372036854775808"), [0, 0, 0, 0, 0, 0, 0, 0x80]);
-    assert_eq!(shown("signed", "+5"), "x = 5");
+    assert_eq!(value("uint64", "18446744073709551615"), [255; 8]);
+    assert_eq!(value("uint64", "258"), [2, 1, 0, 0, 0, 0, 0, 0]);
+    assert_eq!(value("sint64", "-1"), [255; 8]);
+    assert_eq!(value("sint64", "-9223372036854775808"), [0, 0, 0, 0, 0, 0, 0, 0x80]);
+    assert_eq!(shown("sint64", "+5"), "x = 5");
 }
 
 #[test]
@@ -186,7 +186,7 @@ fn of_octets() {
 fn of_properties_called_record_and_bytes() {
     let text = "\
 class instance
-    record  unsigned
+    record  uint64
     bytes   string[]
     class   boolean
 instance
@@ -244,7 +244,7 @@ fn places_of_problems_in_lines() {
         ("  On boolean\n", "1:3: an indented line needs"),
         ("record 0x0001\n  On = 1\n", "2:3: an indented line needs"),
         ("clas P\n", "1:1: a line that isn't indented"),
-        ("class P\n    On bool\n", "2:8: a type is needed here: boolean, unsigned"),
+        ("class P\n    On bool\n", "2:8: a type is needed here: boolean, uint8, "),
         ("class P\n    On boolean[\n", "2:16: `]` is missing"),
         ("class P\n    On boolean]\n", "2:15: nothing more"),
         ("class P\n    -\n", "2:5: a name "),
@@ -264,7 +264,7 @@ fn places_of_problems_in_lines() {
 
 #[test]
 fn places_of_problems_in_instances() {
-    let table = "class P\n On boolean\n Dev unsigned[]\n Name string\n record 0x000B 41\n";
+    let table = "class P\n On boolean\n Dev uint64[]\n Name string\n record 0x000B 41\n";
     for (line, start) in [
         (" Dev = {}", "7:2: `On` comes next in the table's order, not `Dev`"),
         (" On TRUE", "7:5: `=` is missing"),
@@ -291,8 +291,8 @@ fn places_of_problems_in_instances() {
 #[test]
 fn places_of_problems_in_values() {
     for (kind, text, what) in [
-        ("signed", "9223372036854775808", "a whole number from -9223372036854775808"),
-        ("signed", "1.0", "a whole number from -9223372036854775808"),
+        ("sint64", "9223372036854775808", "a whole number from -9223372036854775808"),
+        ("sint64", "1.0", "a whole number from -9223372036854775808"),
         ("real64", "inf", "a number that is finite, or `0x` and the bits in 16 hex digits,"),
         ("real64", "NaN", "a number that is finite"),
         ("real64", "1e999", "a number that is finite"),
