@@ -29,8 +29,11 @@ answerOutcome (answer.Excluded n) = excluded n
 answerOutcome (answer.Refused r) = refused (numberOf (r .cause)) (r .place)
 
 -- check, then evaluate
+abbrev pub outcomesIn : (table instance : List ℕ) → (query : List ℕ) → List Outcome
+outcomesIn t i q = checkOutcome (check q t) ∷ answerOutcome (evaluate q t i) ∷ []
+
 abbrev pub outcomes : List ℕ → List Outcome
-outcomes q = checkOutcome (check q sampleTable) ∷ answerOutcome (evaluate q sampleTable sampleInstance) ∷ []
+outcomes q = outcomesIn sampleTable sampleInstance q
 
 abbrev yes : (steps : ℕ) → List Outcome
 yes n = accepted ∷ included n ∷ []

@@ -1,6 +1,6 @@
 -- The sample with Temp and Dev in one byte beside the sample itself, which has them in eight: no query tells them apart.
 use Prim.Native.Nat.{ℕ}
-use mathlib.Core.List.{List, _++_}
+use mathlib.Core.List.{List}
 use mathlib.Core.Path.{_≡_, refl}
 use mathlib.Core.Logic.{inl, inr}
 use native.Mathlib.Omega.{arith}
@@ -20,7 +20,7 @@ use Rattle.datetime.specs.Datetime
 use Rattle.table.specs.Properties
 use Rattle.table.specs.Table
 use Rattle.table.specs.Table.{FreeOfFaults}
-use Rattle.table.specs.Sample.{sampleClass, propertiesIn, sampleTable}
+use Rattle.table.specs.Sample.{tableIn, sampleTable}
 use Rattle.instance.specs.Body
 use Rattle.instance.specs.Conforms.{Conforms}
 use Rattle.instance.specs.Fault
@@ -31,20 +31,14 @@ use Rattle.instance.proofs.Decides.{no-fault-conforms}
 use Rattle.invariance.specs.Wider.{ends, both, scalars, arrays, scalar, array, kept, integers, further, next, Wider, KeepsAnswer}
 use Rattle.invariance.proofs.Wider.{widening}
 
-abbrev narrowTable : List ℕ
-narrowTable = sampleClass ++ propertiesIn 1
-
-abbrev narrowInstance : List ℕ
-narrowInstance = instanceIn 1
-
-narrow-free : FreeOfFaults narrowTable
+narrow-free : FreeOfFaults (tableIn 1)
 unfolding
     LittleEndian.unsigned Walk.walk Walk.from Record.recordAt Record.records Write.littleEndian Write.write
     Range.within Name.letter Name.nameByte Name.all Name.validName Name.lower Name.sameName
     Reserved.reservedWords Reserved.among Reserved.isReserved Kind.integerKind Kind.scalarKind Kind.kindOf Table.properties Table.tableReading
 narrow-free = tt
 
-narrow-fits : conformity narrowTable narrowInstance ≡ Conforming
+narrow-fits : conformity (tableIn 1) (instanceIn 1) ≡ Conforming
 unfolding
     LittleEndian.unsigned Walk.walk Walk.from Record.recordAt Record.records Write.littleEndian Write.stored Write.write
     Kind.integerKind Kind.scalarKind Kind.kindOf Range.within Digit.digitOf Digit.allDigits Digit.valueOf Properties.kindsIn
@@ -53,10 +47,10 @@ unfolding
     Body.booleanFits Body.textFits Body.char16Fits Body.datetimeFits Fault.elementsFit Fault.furtherFault Fault.faultIn Fault.faultUnder
 narrow-fits = refl
 
-narrow-conforms : Conforms narrowTable narrowInstance
-narrow-conforms = no-fault-conforms narrowTable narrowInstance narrow-free narrow-fits
+narrow-conforms : Conforms (tableIn 1) (instanceIn 1)
+narrow-conforms = no-fault-conforms (tableIn 1) (instanceIn 1) narrow-free narrow-fits
 
-sample-wider : Wider narrowTable narrowInstance sampleTable sampleInstance
+sample-wider : Wider (tableIn 1) (instanceIn 1) sampleTable sampleInstance
 unfolding
     LittleEndian.unsigned LittleEndian.twosComplement Walk.walk Walk.from Record.recordAt Record.records Record.Fit
     Write.littleEndian Write.stored Write.write Kind.integerKind Kind.scalarKind Kind.kindOf Properties.kindsIn
@@ -76,5 +70,5 @@ sample-wider =
       within = omega arith;
     }
 
-pub sample-keeps : (q : List ℕ) → KeepsAnswer q narrowTable narrowInstance sampleTable sampleInstance
-sample-keeps q = widening q narrowTable narrowInstance sampleTable sampleInstance narrow-conforms sample-wider
+pub sample-keeps : (q : List ℕ) → KeepsAnswer q (tableIn 1) (instanceIn 1) sampleTable sampleInstance
+sample-keeps q = widening q (tableIn 1) (instanceIn 1) sampleTable sampleInstance narrow-conforms sample-wider

@@ -7,7 +7,7 @@ use Rattle.record.specs.Write.{write}
 abbrev pub sampleClass : List ℕ
 sampleClass = write 0x0200 (bytes "P")
 
--- the properties, with the integers in a width
+-- with the integers in a width
 abbrev pub propertiesIn : (width : ℕ) → List ℕ
 propertiesIn w =
     write 1 (bytes "On")
@@ -17,8 +17,11 @@ propertiesIn w =
     ++ write 9 (bytes "Since")
     ++ write 5 (bytes "R")
 
+abbrev pub tableIn : (width : ℕ) → List ℕ
+tableIn w = sampleClass ++ propertiesIn w
+
 abbrev pub sampleProperties : List ℕ
 sampleProperties = propertiesIn 8
 
 abbrev pub sampleTable : List ℕ
-sampleTable = sampleClass ++ sampleProperties
+sampleTable = tableIn 8
