@@ -1,4 +1,3 @@
-pub mod Widths
 pub mod Records
 pub mod Reach
 pub mod Shift
@@ -7,5 +6,6 @@ pub mod Written
 pub mod Laws
 pub mod Names
 pub mod Examples
+pub mod Numbers
 pub mod Types
 pub mod Small

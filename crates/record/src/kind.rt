@@ -1,6 +1,6 @@
 // Kinds: what a property's kind says of its values.
 ghost use mathlib.Core.Path.{_≡_};
-ghost use Rattle.record.specs.Kind.{types, find, isWidth, integerKind, scalarKind, arrayOf, kindOf, row, sameRow};
+ghost use Rattle.record.specs.Kind.{scalarKind, arrayOf, kindOf, row, sameRow};
 
 // The families of types; integers and reals come in widths.
 pub enum Family {
@@ -38,67 +38,29 @@ fn scalar(family: Family, width: usize, signed: bool) -> Kind
     })
 }
 
-// The types but the integers.
-fn plain_kind(number: usize) -> Kind
-    ensures { λ r. ⌜ r ≡ find number types ⌝ }
-{
-    if number == 1 {
-        return scalar(Family::Boolean, 1, false);
-    }
-    if number == 4 {
-        return scalar(Family::Real, 4, false);
-    }
-    if number == 5 {
-        return scalar(Family::Real, 8, false);
-    }
-    if number == 6 {
-        return scalar(Family::Text, 0, false);
-    }
-    if number == 7 {
-        return scalar(Family::Char16, 2, false);
-    }
-    if number == 8 {
-        return scalar(Family::Octets, 0, false);
-    }
-    if number == 9 {
-        return scalar(Family::Datetime, 25, false);
-    }
-    if number == 10 {
-        return scalar(Family::Reference, 0, false);
-    }
-    Kind::Unknown
-}
-
-fn is_width(width: usize) -> bool
-    ensures { λ r. ⌜ r ≡ isWidth width ⌝ }
-{
-    (width == 1) | ((width == 2) | ((width == 4) | (width == 8)))
-}
-
-// The integers: the first hex digit is 1 without a sign and 2 with one, the last is the width.
-fn integer_kind(digit: usize, width: usize) -> Kind
-    ensures { λ r. ⌜ r ≡ integerKind digit width ⌝ }
-{
-    if !is_width(width) {
-        return Kind::Unknown;
-    }
-    if digit == 1 {
-        return scalar(Family::Integer, width, false);
-    }
-    if digit == 2 {
-        return scalar(Family::Integer, width, true);
-    }
-    Kind::Unknown
-}
-
-// What a type's number says: an integer's is two hex digits, any other's is one.
+// The one function that knows the types' numbers.
 fn scalar_kind(number: usize) -> Kind
     ensures { λ r. ⌜ r ≡ scalarKind number ⌝ }
 {
-    if number < 0x0010 {
-        return plain_kind(number);
+    match number {
+        1 => scalar(Family::Boolean, 1, false),
+        4 => scalar(Family::Real, 4, false),
+        5 => scalar(Family::Real, 8, false),
+        6 => scalar(Family::Text, 0, false),
+        7 => scalar(Family::Char16, 2, false),
+        8 => scalar(Family::Octets, 0, false),
+        9 => scalar(Family::Datetime, 25, false),
+        10 => scalar(Family::Reference, 0, false),
+        0x0011 => scalar(Family::Integer, 1, false),
+        0x0012 => scalar(Family::Integer, 2, false),
+        0x0014 => scalar(Family::Integer, 4, false),
+        0x0018 => scalar(Family::Integer, 8, false),
+        0x0021 => scalar(Family::Integer, 1, true),
+        0x0022 => scalar(Family::Integer, 2, true),
+        0x0024 => scalar(Family::Integer, 4, true),
+        0x0028 => scalar(Family::Integer, 8, true),
+        _ => Kind::Unknown,
     }
-    integer_kind(number / 16, number % 16)
 }
 
 fn array_of(element: usize, kind: Kind) -> Kind

@@ -5,20 +5,6 @@
 
 /// One byte, 0 or 1.
 pub const BOOLEAN: u16 = 1;
-/// A real number of 4 bytes, IEEE 754.
-pub const REAL32: u16 = 4;
-/// A real number of 8 bytes, IEEE 754.
-pub const REAL64: u16 = 5;
-/// A text in UTF-8.
-pub const STRING: u16 = 6;
-/// One character up to U+FFFF, in 2 bytes.
-pub const CHAR16: u16 = 7;
-/// Bytes of any number and content.
-pub const OCTETS: u16 = 8;
-/// A timestamp or an interval, in 25 bytes.
-pub const DATETIME: u16 = 9;
-/// A reference to an instance, in UTF-8.
-pub const REFERENCE: u16 = 10;
 /// An unsigned integer of one byte.
 pub const UINT8: u16 = 0x0011;
 /// An unsigned integer of 2 bytes.
@@ -35,3 +21,17 @@ pub const SINT16: u16 = 0x0022;
 pub const SINT32: u16 = 0x0024;
 /// A signed integer of 8 bytes, in two's complement.
 pub const SINT64: u16 = 0x0028;
+/// A real number of 4 bytes, IEEE 754.
+pub const REAL32: u16 = 4;
+/// A real number of 8 bytes, IEEE 754.
+pub const REAL64: u16 = 5;
+/// A text in UTF-8.
+pub const STRING: u16 = 6;
+/// One character up to U+FFFF, in 2 bytes.
+pub const CHAR16: u16 = 7;
+/// Bytes of any number and content.
+pub const OCTETS: u16 = 8;
+/// A timestamp or an interval, in 25 bytes.
+pub const DATETIME: u16 = 9;
+/// A reference to an instance, in UTF-8.
+pub const REFERENCE: u16 = 10;

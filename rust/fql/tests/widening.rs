@@ -4,6 +4,8 @@
 mod common;
 
 use common::agree;
+use fql::record::{write, CLASS};
+use fql::types::{SINT64, SINT8, STRING};
 use reference::cases::call;
 use reference::cases::widened::{pair, same_number, zero_extended, Changes, Pair};
 use reference::random::{for_each_seed, Random};
@@ -104,4 +106,20 @@ fn wrong_widening(r: &mut Random) {
 #[test]
 fn a_wrong_widening_changes_answers() {
     for_each_seed(wrong_widening);
+}
+
+/// With −5 in 8 bytes in place of one an instance is 7 bytes longer, which may take it past its limit.
+#[test]
+fn up_to_the_limit_of_an_instance() {
+    let ask = |kind: u16, number: &[u8], spare: usize| {
+        let table = [write(CLASS, b"P"), write(kind, b"A")].concat();
+        let instance = [write(kind, number), write(STRING, &vec![b'a'; spare])].concat();
+        (instance.len(), agree(b"A = -5", &table, &instance))
+    };
+    let included = Ok(Answer { included: true, steps: 1 });
+    let too_long = Err(Refusal { number: 30, place: 0 });
+    for (spare, wider) in [(65_519, included), (65_520, too_long)] {
+        assert_eq!(ask(SINT8, &(-5i8).to_le_bytes(), spare), (9 + spare, included));
+        assert_eq!(ask(SINT64, &(-5i64).to_le_bytes(), spare), (16 + spare, wider));
+    }
 }

@@ -1,0 +1,107 @@
+-- What a type's number says, case by case: what holds of every type that it may be holds of whatever it says, and any other number says nothing.
+use Prim.Native.Nat.{ℕ, _+_, _*_, _/_, _%_}
+use mathlib.Core.List.{List, [], _∷_}
+use mathlib.Core.Bool.{Bool, true, false, _||_}
+use mathlib.Core.Path.{_≡_, refl, sym}
+use mathlib.Core.Logic.{_⊎_, inl, inr}
+use native.Mathlib.Omega.{arith}
+use native.Mathlib.Nat.{mod-add-div}
+use lib.Dec.{ltb, eqb}
+use borrow.Author.Tests.{eqb-true}
+use Rattle.base.specs.Pick.{pick}
+use Rattle.record.specs.declared.kind.Family.the-variants.{Integer}
+use Rattle.record.specs.declared.kind.Kind.{Kind}
+use Rattle.record.specs.declared.kind.Kind.the-variants.{Unknown}
+use Rattle.record.specs.Kind.{scalarOf, Numbered, types, find, isWidth, integerOf, integerKind, scalarKind}
+
+-- ---- the widths of integers
+abbrev pub IsWidth : ℕ → Type 0
+IsWidth w = (w ≡ 1) ⊎ ((w ≡ 2) ⊎ ((w ≡ 4) ⊎ (w ≡ 8)))
+
+widths : (w : ℕ) → isWidth w ≡ true → IsWidth w
+widths w h = go (eqb w 1) refl (eqb w 2) refl (eqb w 4) refl h
+  where
+    go : (a : Bool) → eqb w 1 ≡ a → (b : Bool) → eqb w 2 ≡ b → (c : Bool) → eqb w 4 ≡ c → (a || (b || (c || eqb w 8))) ≡ true → IsWidth w
+    go true e b f c g h = inl (eqb-true w 1 e)
+    go false e true f c g h = inr (inl (eqb-true w 2 f))
+    go false e false f true g h = inr (inr (inl (eqb-true w 4 g)))
+    go false e false f false g h = inr (inr (inr (eqb-true w 8 h)))
+
+-- ---- what holds of every type
+module _ (P : Kind → Type 0) (unknown : P Unknown) (n : ℕ) where
+  abbrev pub Each : List Numbered → Type 0
+  Each [] = Unit
+  Each (m ∷ ms) = (n ≡ m .number → P (m .says)) × Each ms
+
+  abbrev pub Integers : Type 0
+  Integers = IsWidth (n % 16) → (n / 16 ≡ 1 → P (scalarOf Integer (n % 16) false)) × (n / 16 ≡ 2 → P (scalarOf Integer (n % 16) true))
+
+  found : (ms : List Numbered) → Each ms → P (find n ms)
+  found [] h = unknown
+  found (m ∷ ms) h = go (eqb n (m .number)) refl (found ms (h .1))
+    where
+      go : (b : Bool) → eqb n (m .number) ≡ b → P (find n ms) → P (pick b (m .says) (find n ms))
+      go true e r = h .0 (eqb-true n (m .number) e)
+      go false e r = r
+
+  integer : Integers → P (integerKind (n / 16) (n % 16))
+  unfolding integerKind
+  integer i = go (isWidth (n % 16)) refl
+    where
+      with-sign : (b : Bool) → eqb (n / 16) 2 ≡ b → IsWidth (n % 16) → P (pick b (scalarOf Integer (n % 16) true) Unknown)
+      with-sign true f w = (i w) .1 (eqb-true (n / 16) 2 f)
+      with-sign false f w = unknown
+
+      any-sign : (b : Bool) → eqb (n / 16) 1 ≡ b → IsWidth (n % 16)
+          → P (pick b (scalarOf Integer (n % 16) false) (pick (eqb (n / 16) 2) (scalarOf Integer (n % 16) true) Unknown))
+      any-sign true f w = (i w) .0 (eqb-true (n / 16) 1 f)
+      any-sign false f w = with-sign (eqb (n / 16) 2) refl w
+
+      go : (b : Bool) → isWidth (n % 16) ≡ b → P (pick b (integerOf (n / 16) (n % 16)) Unknown)
+      go true e = any-sign (eqb (n / 16) 1) refl (widths (n % 16) e)
+      go false e = unknown
+
+  pub each-scalar : Each types → Integers → P (scalarKind n)
+  unfolding scalarKind
+  each-scalar h i = go (ltb n 0x0010)
+    where
+      go : (b : Bool) → P (pick b (find n types) (integerKind (n / 16) (n % 16)))
+      go true = found types h
+      go false = integer i
+
+-- ---- a number that is no type's
+abbrev pub NoneOf : List ℕ → ℕ → Type 0
+NoneOf [] n = Unit
+NoneOf (m ∷ ms) n = NoneOf ms n × (n ≡ m → ⊥)
+
+-- the types' numbers, the last first
+abbrev pub plain : List ℕ
+plain = 10 ∷ 9 ∷ 8 ∷ 7 ∷ 6 ∷ 5 ∷ 4 ∷ 1 ∷ []
+
+abbrev pub numbers : List ℕ
+numbers = 0x0028 ∷ 0x0024 ∷ 0x0022 ∷ 0x0021 ∷ 0x0018 ∷ 0x0014 ∷ 0x0012 ∷ 0x0011 ∷ plain
+
+module _ (n : ℕ) (h : NoneOf numbers n) where
+  no-width : (d : ℕ) → n / 16 ≡ d → (16 * d + 1 ≡ n → ⊥) → (16 * d + 2 ≡ n → ⊥) → (16 * d + 4 ≡ n → ⊥) → (16 * d + 8 ≡ n → ⊥) → IsWidth (n % 16) → ⊥
+  no-width d e a b f g (inl w) = a (omega (arith, mod-add-div n 16))
+  no-width d e a b f g (inr (inl w)) = b (omega (arith, mod-add-div n 16))
+  no-width d e a b f g (inr (inr (inl w))) = f (omega (arith, mod-add-div n 16))
+  no-width d e a b f g (inr (inr (inr w))) = g (omega (arith, mod-add-div n 16))
+
+  pub unknown-number : Unknown ≡ scalarKind n
+  unknown-number = each-scalar (λ k. Unknown ≡ k) refl n others integers
+    where
+      u : NoneOf (0x0018 ∷ 0x0014 ∷ 0x0012 ∷ 0x0011 ∷ plain) n
+      u = h .0 .0 .0 .0
+
+      p : NoneOf plain n
+      p = u .0 .0 .0 .0
+
+      others : Each (λ k. Unknown ≡ k) refl n types
+      others = (λ e. absurd (p .0 .0 .0 .0 .0 .0 .0 .1 e), (λ e. absurd (p .0 .0 .0 .0 .0 .0 .1 e), (λ e. absurd (p .0 .0 .0 .0 .0 .1 e), (λ e. absurd (p .0 .0 .0 .0 .1 e), (λ e. absurd (p .0 .0 .0 .1 e), (λ e. absurd (p .0 .0 .1 e), (λ e. absurd (p .0 .1 e), (λ e. absurd (p .1 e), tt))))))))
+
+      integers : Integers (λ k. Unknown ≡ k) refl n
+      integers w = (
+        λ d. absurd (no-width 1 d (λ e. u .0 .0 .0 .1 (sym e)) (λ e. u .0 .0 .1 (sym e)) (λ e. u .0 .1 (sym e)) (λ e. u .1 (sym e)) w),
+        λ d. absurd (no-width 2 d (λ e. h .0 .0 .0 .1 (sym e)) (λ e. h .0 .0 .1 (sym e)) (λ e. h .0 .1 (sym e)) (λ e. h .1 (sym e)) w),
+      )
