@@ -32,7 +32,7 @@ use Rattle.instance.specs.Conforms.{Slot, count, Elements, HasKind, Conf
 use Rattle.instance.specs.Start.{startOf}
 use Rattle.instance.specs.Value.{ScalarValue, truth, whole, real, text, octets, datetime, reference, Value, null, single, array, Entry, absent, property, familyValue, scalarIn, elementIn, elements, bodyValue, valueAt, entryAt, environmentUnder, environment}
 use Rattle.instance.specs.Integers.{InRange}
-use Rattle.instance.proofs.Integers.{range}
+use Rattle.instance.proofs.Integers.{reads-whole}
 use Rattle.instance.proofs.Environment.{record-of, some-at, none-at}
 
 -- a value has the form of a family
@@ -71,7 +71,7 @@ Entered (property k v) = Valued (kindOf k) v
 formed : (f : family.Family) (w : ℕ) (g : Bool) (s : List ℕ) → SizedBy f w → Bytes s → HasFamily f w s → Formed w g f (familyValue f w g s)
 unfolding familyValue
 formed Boolean w g s z b h = of-boolean
-formed Integer w g s z b h = of-integer (range g w s (z .1) b h)
+formed Integer w g s z b h = of-integer (reads-whole (record { family = Integer; width = w; signed = g }) s z refl h b .range)
 formed Real w g s z b h = of-real
 formed Text w g s z b h = of-text (characters-scalar s 0)
 formed Char16 w g s z b h = of-char16 {c = numberAt s 0} (number-below s 0 b) (h .1)

@@ -1,11 +1,11 @@
 -- Integers, one law over width and sign for each: what a body reads, that what is stored reads back, and that a wider kind holds the numbers of a narrower one.
-use Prim.Native.Nat.{ℕ, zero, suc, _+_, _-_, _*_, _/_, _^_, _≤_, _<_}
+use Prim.Native.Nat.{ℕ, zero, suc, _+_, _-_, _/_, _^_, _≤_}
 use mathlib.Core.List.{List}
 use mathlib.Core.Bool.{Bool, true, false}
 use mathlib.Core.Path.{_≡_, refl, sym, ap, _∙_}
 use native.Mathlib.Omega.{arith}
 use native.Mathlib.Nat.{pow-succ', pow-le-pow-right}
-use lib.ListN.{length, take}
+use lib.ListN.{length}
 use lib.Seq.{take-all}
 use lib.Dec.{leb}
 use lib.IntN.{ℤ, pos, negsuc}
@@ -46,7 +46,7 @@ range-signed s h = go (leb (unsigned s) ((256 ^ length s - 1) / 2)) refl
         rw (← signed-high s (256 ^ length s - 1) refl ones l u) (omega (arith, positive (length s)))
 
 -- what a body of `w` bytes holds is a number of that width
-pub range : (g : Bool) (w : ℕ) (s : List ℕ) → w ≤ 8 → Bytes s → length s ≡ w → InRange g w (wholeIn g s)
+range : (g : Bool) (w : ℕ) (s : List ℕ) → w ≤ 8 → Bytes s → length s ≡ w → InRange g w (wholeIn g s)
 range false w s z h e = let q = take-all 8 s (omega arith) in rw (← e, q) (unsigned-below s h)
 range true w s z h e = let q = take-all 8 s (omega arith) in rw (← e, q) (range-signed s h)
 
@@ -62,10 +62,13 @@ reads-whole t s z e h b =
     record { bytes = l; number = all-read (t .signed) s (omega (arith, w .1)); range = range (t .signed) (t .width) s (w .1) b l }
 
 -- every integer so, of a scalar's kind or of an array's: no width has a law of its own
-pub integers-read : (k : ℕ) → Said (λ t. t .family ≡ Integer → (s : List ℕ) → HasType t s → Bytes s → ReadsWhole t s) (kindOf k)
+abbrev pub IntegerReads : ValueType → Type 0
+IntegerReads t = t .family ≡ Integer → (s : List ℕ) → HasType t s → Bytes s → ReadsWhole t s
+
+pub integers-read : (k : ℕ) → Said IntegerReads (kindOf k)
 integers-read k = go (kindOf k) (sized k)
   where
-    go : (x : Kind) → Said Sized x → Said (λ t. t .family ≡ Integer → (s : List ℕ) → HasType t s → Bytes s → ReadsWhole t s) x
+    go : (x : Kind) → Said Sized x → Said IntegerReads x
     go Unknown z = tt
     go (Scalar t) z = λ e s. reads-whole t s z e
     go (Array f t) z = λ e s. reads-whole t s z e

@@ -1,4 +1,4 @@
--- 01 "A fan to try": the sample instance, TRUE, −5, {3,14}, FAN_2, 20051003112233.000000+000, 0.5.
+-- 01 "A fan to try", with the kinds of 02 Q-2: the sample instance, TRUE, −5, {3,14}, FAN_2, 20051003112233.000000+000, 0.5.
 use Prim.Native.Nat.{ℕ, _+_}
 use mathlib.Core.List.{List, [], _∷_, _++_}
 use lib.IntN.{pos, negsuc}

@@ -13,7 +13,7 @@ use Rattle.syntax.specs.declared.right_side.RightSide.{RightSide}
 use Rattle.syntax.specs.declared.right_side.RightSide.the-variants.{Literal, Elements, Property, Pattern}
 use Rattle.syntax.specs.declared.comparison.Comparison.{Comparison}
 use Rattle.instance.specs.Value.{Value, Entry, absent, property}
-use Rattle.judge.specs.Meaning.{asScalar, asArray, Left, leftScalar, leftArray, Right, rightScalar, rightArray, rightKind, rightProperty, rightOf, Meant, meet, meantBy, meantAs, meaning}
+use Rattle.judge.specs.Meaning.{asScalar, asArray, Left, leftScalar, leftArray, rightScalar, rightArray, rightKind, rightProperty, rightOf, meet, meantBy, meantAs, meaning}
 
 -- kinds of one shape and one family, whatever their numbers, widths and signs
 pub data KindsAlike : Kind → Kind → Type 0 where

@@ -1,5 +1,5 @@
 -- Records in pairs: what stands at two places with pairs from there on, and that names that agree make two tables of one length.
-use Prim.Native.Nat.{ℕ, zero, suc, _+_, _-_, _≤_, _<_}
+use Prim.Native.Nat.{ℕ, zero, suc, _-_, _≤_, _<_}
 use mathlib.Core.Path.{_≡_, refl, sym, ap, _∙_}
 use mathlib.Core.List.{List}
 use native.Mathlib.Omega.{arith}
@@ -25,17 +25,19 @@ module _ (s u : List ℕ) (Pair : (kind : ℕ) (body : List ℕ) (other : ℕ) (
   rest : {p k a n o l b m : ℕ} {rs qs : Records} → Paired s u Pair (item p k a n rs) (item o l b m qs) → Paired s u Pair rs qs
   rest (both w r) = r
 
-  no-broken : {o : ℕ} {rs : Records} → Paired s u Pair rs (broken o) → ⊥
-  no-broken = elim [ ]
+  -- beside an item stands an item, and beside the end the end
+  abbrev Beside : Records → Records → Type 0
+  Beside (item p k a n rs) (item o l b m qs) = Unit
+  Beside (item p k a n rs) (broken o) = ⊥
+  Beside (item p k a n rs) ended = ⊥
+  Beside (broken p) qs = ⊥
+  Beside ended (item o l b m qs) = ⊥
+  Beside ended (broken o) = ⊥
+  Beside ended ended = Unit
 
-  broken-no : {o : ℕ} {qs : Records} → Paired s u Pair (broken o) qs → ⊥
-  broken-no = elim [ ]
-
-  no-end : {p k a n : ℕ} {rs : Records} → Paired s u Pair (item p k a n rs) ended → ⊥
-  no-end = elim [ ]
-
-  end-no : {p k a n : ℕ} {qs : Records} → Paired s u Pair ended (item p k a n qs) → ⊥
-  end-no = elim [ ]
+  beside : {rs qs : Records} → Paired s u Pair rs qs → Beside rs qs
+  beside ends = tt
+  beside (both w r) = tt
 
   pub stand : (at place : ℕ) → Paired s u Pair (records s at) (records u place) → Stand at place
   stand at place w = go (recordAt s at) (recordAt u place) refl refl
@@ -43,11 +45,11 @@ module _ (s u : List ℕ) (Pair : (kind : ℕ) (body : List ℕ) (other : ℕ) (
       go : (r v : RecordAt) → recordAt s at ≡ r → recordAt u place ≡ v → Stand at place
       go (Whole k a n x) (Whole l b m y) e f =
           let h = rw (records-whole s at k a n x e, records-whole u place l b m y f) at w in at-record e f (first h) (rest h)
-      go (Whole k a n x) Broken e f = absurd (no-broken (rw (records-broken u place f) at w))
-      go (Whole k a n x) End e f = absurd (no-end (rw (records-whole s at k a n x e, records-end u place f) at w))
-      go Broken v e f = absurd (broken-no (rw (records-broken s at e) at w))
-      go End (Whole l b m y) e f = absurd (end-no (rw (records-end s at e, records-whole u place l b m y f) at w))
-      go End Broken e f = absurd (no-broken (rw (records-broken u place f) at w))
+      go (Whole k a n x) Broken e f = absurd (rw (records-whole s at k a n x e, records-broken u place f) at (beside w))
+      go (Whole k a n x) End e f = absurd (rw (records-whole s at k a n x e, records-end u place f) at (beside w))
+      go Broken v e f = absurd (rw (records-broken s at e) at (beside w))
+      go End (Whole l b m y) e f = absurd (rw (records-end s at e, records-whole u place l b m y f) at (beside w))
+      go End Broken e f = absurd (rw (records-end s at e, records-broken u place f) at (beside w))
       go End End e f = at-end e f
 
 -- the same names: as many bytes from there on

@@ -1,30 +1,27 @@
 -- 02 Q-2: the same whole numbers in wider kinds keep a query's answer, its steps, and the check's word on it.
 use Prim.Native.Nat.{ℕ, zero, suc, _≤_, _<_}
 use mathlib.Core.Path.{_≡_, refl, sym, ap, ap₂, _∙_, subst, fun-ext}
-use mathlib.Core.List.{List, [], _∷_}
+use mathlib.Core.List.{List}
 use mathlib.Core.Bool.{Bool, true, false, _&&_}
-use mathlib.Core.Option.{Option, none, some}
-use mathlib.Core.Logic.{_⊎_, inl, inr}
+use mathlib.Core.Option.{none}
+use mathlib.Core.Logic.{inl, inr}
 use native.Mathlib.Omega.{arith}
 use lib.ListN.{length, getD, getElem?}
 use lib.Dec.{ltb, eqb}
 use borrow.Author.Tests.{ltb-true, ltb-false}
 use Rattle.base.specs.Pick.{pick}
-use Rattle.record.specs.Record.{recordAt, records}
 use Rattle.record.specs.Kind.{kindOf}
 use Rattle.record.specs.Name.{sameName}
 use Rattle.record.specs.declared.kind.Kind.{Kind}
-use Rattle.record.specs.declared.kind.Kind.the-variants.{Unknown, Scalar, Array}
-use Rattle.table.specs.Table.{class, tableReading, IsGood, FreeOfFaults, malformedAt}
-use Rattle.table.specs.Properties.{className, kindsIn, kindsOf, propertyRecords, findProperty}
+use Rattle.table.specs.Table.{tableReading, IsGood}
+use Rattle.table.specs.Properties.{className, kindsOf, propertyRecords, findProperty}
 use Rattle.table.specs.declared.validate.TableReading.{TableReading}
 use Rattle.table.specs.declared.validate.TableReading.the-variants as table-reading
 use Rattle.table.specs.declared.lookup.Found.{Found}
 use Rattle.table.specs.declared.lookup.Found.the-variants.{Property, Absent}
-use Rattle.table.proofs.Find.{found-at}
 use Rattle.instance.specs.Conforms.{Conforms}
 use Rattle.instance.specs.Fault.{conformity}
-use Rattle.instance.specs.Value.{Entry, absent, property, valueAt, entryAt, environmentUnder, environment}
+use Rattle.instance.specs.Value.{entryAt, environmentUnder, environment}
 use Rattle.instance.specs.Start.{startOf}
 use Rattle.instance.specs.declared.conform.Conformity.{Conformity}
 use Rattle.instance.proofs.Decides.{conforms-no-fault}
@@ -34,16 +31,14 @@ use Rattle.syntax.specs.declared.right_side.RightSide.{RightSide}
 use Rattle.syntax.specs.declared.right_side.RightSide.the-variants as right-side
 use Rattle.syntax.specs.declared.comparison.Comparison.{Comparison}
 use Rattle.query_text.specs.Query.{Comparisons, only, more}
-use Rattle.query_text.specs.Text.{textVerdict}
 use Rattle.operand.specs.Named.{spanned, named}
-use Rattle.judge.specs.Meaning.{Meant, fails, means, meaning}
+use Rattle.judge.specs.Meaning.{Meant, fails, means}
 use Rattle.judge.specs.Environment.{entryFound, entryNamed}
 use Rattle.filter.specs.Refusal.{Call, refused, compares, callUnder, callOf}
 use Rattle.filter.specs.Check as check
 use Rattle.filter.specs.Check.{Verdict, passes, breaks, first, checkComparison, checkAll, asChecked, checkCall}
 use Rattle.filter.specs.Meaning.{queryMeaning, querySteps}
 use Rattle.filter.specs.Evaluate.{meantIn, answerOf, evaluateCall, evaluate}
-use Rattle.filter.specs.declared.refusal.Checked.{Checked}
 use Rattle.filter.proofs.Agree.{Agrees, comparison-agrees}
 use Rattle.invariance.specs.Wider.{IntegerKinds, Widens, Paired, SameName, Wider, KeepsAnswer}
 use Rattle.invariance.specs.Wider as integer-kinds

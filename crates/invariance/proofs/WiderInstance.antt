@@ -1,10 +1,10 @@
 -- An instance that holds the same whole numbers in wider kinds conforms to the wider table, and each of its properties has the same value.
 use Prim.Native.Nat.{ℕ, zero, suc, _≤_, _<_}
 use mathlib.Core.Path.{_≡_, refl, sym, ap, ap₂, _∙_, subst}
-use mathlib.Core.List.{List, [], _∷_}
+use mathlib.Core.List.{List, _∷_}
 use mathlib.Core.Bool.{Bool, true, false}
 use mathlib.Core.Option.{Option, some}
-use mathlib.Core.Logic.{_⊎_, inl, inr}
+use mathlib.Core.Logic.{inl, inr}
 use native.Mathlib.Omega.{arith}
 use lib.ListN.{length, getD, drop}
 use lib.Seq.{drop-cons}
@@ -14,45 +14,44 @@ use Rattle.base.specs.Pick.{pick}
 use Rattle.base.specs.Part.{part}
 use Rattle.base.proofs.Says.{apart}
 use Rattle.record.specs.Record.{recordAt, Records, item, broken, ended, records}
-use Rattle.record.specs.Kind.{integerKind, scalarKind, kindOf}
+use Rattle.record.specs.Kind.{scalarKind, kindOf}
 use Rattle.record.specs.declared.read.RecordAt.{RecordAt}
 use Rattle.record.specs.declared.read.RecordAt.the-variants.{Whole, Broken, End}
 use Rattle.record.specs.declared.kind.Family as family
-use Rattle.record.specs.declared.kind.Family.the-variants.{Integer}
 use Rattle.record.specs.declared.kind.ValueType.{ValueType}
 use Rattle.record.specs.declared.kind.Kind.{Kind}
-use Rattle.record.specs.declared.kind.Kind.the-variants.{Unknown, Scalar, Array}
+use Rattle.record.specs.declared.kind.Kind.the-variants.{Unknown, Scalar}
 use Rattle.record.proofs.Records.{records-whole, records-broken, records-end}
 use Rattle.record.proofs.Types.{OfElements, of-elements}
 use Rattle.table.specs.Table.{isKnown}
 use Rattle.instance.specs.Body.{HasFamily, HasType}
 use Rattle.instance.specs.Conforms.{Slot, count, Elements, HasKind, Lays}
 use Rattle.instance.specs.Start.{startOf}
-use Rattle.instance.specs.Value.{ScalarValue, whole, Value, single, array, familyValue, scalarIn, elementIn, elements, bodyValue, valueAt}
+use Rattle.instance.specs.Value.{ScalarValue, whole, single, array, familyValue, scalarIn, elementIn, elements, bodyValue, valueAt}
 use Rattle.instance.specs.Value as value
-use Rattle.invariance.specs.Wider.{Integers, Paired, ends, both, SameNumber, SameElement, SameBody, scalar, SameRecord, null, kept, integers, SameNumbers, further, next}
+use Rattle.invariance.specs.Wider.{Integers, IntegerKinds, scalars, arrays, Paired, ends, both, SameNumber, SameElement, SameBody, scalar, SameRecord, null, kept, integers, SameNumbers, further, next}
 use Rattle.invariance.specs.Wider as wider
+use Rattle.invariance.proofs.WiderTable.{known-both}
 
 -- ---- kind 0 is of no type
-zero-unknown : (k : ℕ) → isKnown (kindOf k) ≡ true → eqb k 0 ≡ false
-unfolding kindOf scalarKind integerKind
-zero-unknown k h = go (eqb k 0) refl
+not-zero : (says : ℕ → Kind) → says 0 ≡ Unknown → (k : ℕ) → isKnown (says k) ≡ true → eqb k 0 ≡ false
+not-zero says z k h = go (eqb k 0) refl
   where
     go : (b : Bool) → eqb k 0 ≡ b → b ≡ false
-    go true e = absurd (apart (rw (eqb-true k 0 e) at h))
+    go true e = absurd (apart (sym (ap isKnown (ap says (eqb-true k 0 e) ∙ z)) ∙ h))
     go false e = refl
 
-known-both : {k l : Kind} {x y : List ℕ} → SameBody k l x y → (isKnown k ≡ true) × (isKnown l ≡ true)
-known-both (scalar h w) = (refl, refl)
-known-both (wider.array h w) = (refl, refl)
+property-not-zero : (k : ℕ) → isKnown (kindOf k) ≡ true → eqb k 0 ≡ false
+unfolding kindOf scalarKind
+property-not-zero = not-zero kindOf refl
 
 element-not-zero : (e : ℕ) {t : ValueType} → scalarKind e ≡ Scalar t → eqb e 0 ≡ false
-unfolding scalarKind integerKind
-element-not-zero e h = go (eqb e 0) refl
-  where
-    go : (b : Bool) → eqb e 0 ≡ b → b ≡ false
-    go true f = absurd (apart (ap isKnown (rw (eqb-true e 0 f) at h)))
-    go false f = refl
+unfolding scalarKind
+element-not-zero e h = not-zero scalarKind refl e (ap isKnown h)
+
+integer-kinds : {k l : Kind} {x y : List ℕ} → SameBody k l x y → IntegerKinds k l
+integer-kinds (scalar h w) = scalars h
+integer-kinds (wider.array h w) = arrays h
 
 -- ---- integers
 module _ (e f : ℕ) (a b : ValueType) (i : Integers a b) where
@@ -105,14 +104,14 @@ module _ (k l kind : ℕ) (x : List ℕ) (other : ℕ) (y : List ℕ) where
   record-fits : SameRecord k l kind x other y → Slot k kind x (HasKind (kindOf k) x) → Slot l other y (HasKind (kindOf l) y)
   record-fits (null w) h = inl (w .1)
   record-fits (kept e f g) h = rw (sym e, sym f, sym g) h
-  record-fits (integers e f w) (inl h) = absurd (apart (sym (zero-unknown k ((known-both w) .0)) ∙ eq-eqb k 0 (sym e ∙ h .0)))
+  record-fits (integers e f w) (inl h) = absurd (apart (sym (property-not-zero k ((known-both (integer-kinds w)) .0)) ∙ eq-eqb k 0 (sym e ∙ h .0)))
   record-fits (integers e f w) (inr h) = inr (f, body-fits w (h .1))
 
   record-same : SameRecord k l kind x other y → pick (eqb other 0) value.null (bodyValue (kindOf l) y) ≡ pick (eqb kind 0) value.null (bodyValue (kindOf k) x)
   record-same (null w) = rw (eq-eqb kind 0 (w .0), eq-eqb other 0 (w .1 .0)) refl
   record-same (kept e f g) = rw (e, f, g) refl
   record-same (integers e f w) =
-      rw (e, f, zero-unknown k ((known-both w) .0), zero-unknown l ((known-both w) .1)) (body-same w (of-elements k) (of-elements l))
+      rw (e, f, property-not-zero k ((known-both (integer-kinds w)) .0), property-not-zero l ((known-both (integer-kinds w)) .1)) (body-same w (of-elements k) (of-elements l))
 
 -- ---- the whole instance
 module _ (i j : List ℕ) where
@@ -135,17 +134,14 @@ module _ (i j : List ℕ) where
       → SameNumbers i j (k ∷ ks) (l ∷ ls) (item p kind a n rs) (item o other b m qs) → SameNumbers i j ks ls rs qs
   rest (next w r) = r
 
-  no-broken : {k l : ℕ} {ks ls : List ℕ} {o : ℕ} {rs : Records} → SameNumbers i j (k ∷ ks) (l ∷ ls) rs (broken o) → ⊥
-  no-broken = elim [ ]
+  -- where a property is awaited, a record stands in both
+  abbrev AnItem : Records → Type 0
+  AnItem (item p k a n rs) = Unit
+  AnItem (broken p) = ⊥
+  AnItem ended = ⊥
 
-  broken-no : {k l : ℕ} {ks ls : List ℕ} {o : ℕ} {qs : Records} → SameNumbers i j (k ∷ ks) (l ∷ ls) (broken o) qs → ⊥
-  broken-no = elim [ ]
-
-  no-end : {k l : ℕ} {ks ls : List ℕ} {rs : Records} → SameNumbers i j (k ∷ ks) (l ∷ ls) rs ended → ⊥
-  no-end = elim [ ]
-
-  end-no : {k l : ℕ} {ks ls : List ℕ} {qs : Records} → SameNumbers i j (k ∷ ks) (l ∷ ls) ended qs → ⊥
-  end-no = elim [ ]
+  items : {k l : ℕ} {ks ls : List ℕ} {rs qs : Records} → SameNumbers i j (k ∷ ks) (l ∷ ls) rs qs → AnItem rs × AnItem qs
+  items (next w r) = (tt, tt)
 
   module _ (ks ls : List ℕ) (n : ℕ) (h : n < length ks) (g : n < length ls)
       (w : SameNumbers i j (drop n ks) (drop n ls) (records i (startOf i n)) (records j (startOf j n))) where
@@ -167,10 +163,10 @@ module _ (i j : List ℕ) where
               value = rw (e, f) (record-same (getD ks n 0) (getD ls n 0) kind (part i s m) other (part j c o) (first x));
               later = rw (e, f) (rest x);
             }
-        go (Whole kind s m past) Broken e f = absurd (no-broken (rw (records-broken j (startOf j n) f) at left))
-        go (Whole kind s m past) End e f = absurd (no-end (rw (records-end j (startOf j n) f) at left))
-        go Broken v e f = absurd (broken-no (rw (records-broken i (startOf i n) e) at left))
-        go End v e f = absurd (end-no (rw (records-end i (startOf i n) e) at left))
+        go (Whole kind s m past) Broken e f = absurd (rw (records-broken j (startOf j n) f) at ((items left) .1))
+        go (Whole kind s m past) End e f = absurd (rw (records-end j (startOf j n) f) at ((items left) .1))
+        go Broken v e f = absurd (rw (records-broken i (startOf i n) e) at ((items left) .0))
+        go End v e f = absurd (rw (records-end i (startOf i n) e) at ((items left) .0))
 
   module _ (ks ls : List ℕ) (w : SameNumbers i j ks ls (records i 0) (records j 0)) where
     numbers-at : (n : ℕ) → n ≤ length ks → n ≤ length ls → SameNumbers i j (drop n ks) (drop n ls) (records i (startOf i n)) (records j (startOf j n))

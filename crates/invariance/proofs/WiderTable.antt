@@ -3,15 +3,14 @@ use Prim.Native.Nat.{ℕ, _+_}
 use mathlib.Core.Path.{_≡_, refl, sym, ap}
 use mathlib.Core.List.{List, [], _∷_, _++_}
 use mathlib.Core.Bool.{Bool, true, false, _&&_}
-use mathlib.Core.Logic.{_⊎_, inl, inr}
-use native.Mathlib.Omega.{arith}
+use mathlib.Core.Logic.{inl, inr}
 use lib.ListN.{length}
 use lib.Dec.{ltb, eqb}
 use borrow.Author.Tests.{eqb-true}
 use Rattle.base.specs.Pick.{pick}
 use Rattle.base.specs.Part.{part}
 use Rattle.base.proofs.Says.{apart}
-use Rattle.record.specs.Record.{recordAt, Records, item, ended, records}
+use Rattle.record.specs.Record.{Records, item, records}
 use Rattle.record.specs.Kind.{integerKind, scalarKind, kindOf}
 use Rattle.record.specs.Name.{sameName}
 use Rattle.record.specs.Reserved.{among}
@@ -28,7 +27,7 @@ use Rattle.invariance.specs.Wider.{IntegerKinds, scalars, arrays, Widens
 use Rattle.invariance.proofs.Paired.{Stand, at-end, at-record, stand, same-length}
 
 -- ---- kinds
-known-both : {k l : Kind} → IntegerKinds k l → (isKnown k ≡ true) × (isKnown l ≡ true)
+pub known-both : {k l : Kind} → IntegerKinds k l → (isKnown k ≡ true) × (isKnown l ≡ true)
 known-both (scalars h) = (refl, refl)
 known-both (arrays h) = (refl, refl)
 

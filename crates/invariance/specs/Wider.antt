@@ -33,6 +33,7 @@ pub data IntegerKinds : Kind → Kind → Type 0 where
   scalars : {a b : ValueType} → Integers a b → IntegerKinds (Scalar a) (Scalar b)
   arrays : {e f : ℕ} {a b : ValueType} → Integers a b → IntegerKinds (Array e a) (Array f b)
 
+-- the other kind may be wider or narrower
 abbrev pub Widens : (kind other : ℕ) → Type 0
 Widens k l = (k ≡ l) ⊎ IntegerKinds (kindOf k) (kindOf l)
 
@@ -65,7 +66,7 @@ pub data SameNumbers (i j : List ℕ) : (kinds others : List ℕ) → Records �
   next : {k l : ℕ} {ks ls : List ℕ} {p kind a n o other b m : ℕ} {rs qs : Records} → SameRecord k l kind (part i a n) other (part j b m)
       → SameNumbers i j ks ls rs qs → SameNumbers i j (k ∷ ks) (l ∷ ls) (item p kind a n rs) (item o other b m qs)
 
--- table `u` and instance `j` in the place of `t` and `i`
+-- table `u` and instance `j` in the place of `t` and `i`: wider, or of any width that holds the numbers
 pub record Wider (t i u j : List ℕ) : Type 0 where
   pub tables : Paired t u SameName (records t 0) (records u 0)
   pub numbers : SameNumbers i j (kindsOf t) (kindsOf u) (records i 0) (records j 0)

@@ -1,18 +1,18 @@
 -- What a type's number says, case by case: what holds of every type that it may be holds of whatever it says, and any other number says nothing.
-use Prim.Native.Nat.{ℕ, _+_, _*_, _/_, _%_}
+use Prim.Native.Nat.{ℕ, _+_, _-_, _*_, _/_, _%_, _≤_}
 use mathlib.Core.List.{List, [], _∷_}
 use mathlib.Core.Bool.{Bool, true, false, _||_}
-use mathlib.Core.Path.{_≡_, refl, sym}
+use mathlib.Core.Path.{_≡_, refl, sym, ap, _∙_}
 use mathlib.Core.Logic.{_⊎_, inl, inr}
 use native.Mathlib.Omega.{arith}
 use native.Mathlib.Nat.{mod-add-div}
 use lib.Dec.{ltb, eqb}
-use borrow.Author.Tests.{eqb-true}
+use borrow.Author.Tests.{eqb-true, ne-eqb, lt-ltb, le-ltb}
 use Rattle.base.specs.Pick.{pick}
 use Rattle.record.specs.declared.kind.Family.the-variants.{Integer}
 use Rattle.record.specs.declared.kind.Kind.{Kind}
 use Rattle.record.specs.declared.kind.Kind.the-variants.{Unknown}
-use Rattle.record.specs.Kind.{scalarOf, Numbered, types, find, isWidth, integerOf, integerKind, scalarKind}
+use Rattle.record.specs.Kind.{scalarOf, Numbered, types, find, isWidth, integerOf, integerKind, scalarKind, arrayOf, kindOf}
 
 -- ---- the widths of integers
 abbrev pub IsWidth : ℕ → Type 0
@@ -98,10 +98,61 @@ module _ (n : ℕ) (h : NoneOf numbers n) where
       p = u .0 .0 .0 .0
 
       others : Each (λ k. Unknown ≡ k) refl n types
-      others = (λ e. absurd (p .0 .0 .0 .0 .0 .0 .0 .1 e), (λ e. absurd (p .0 .0 .0 .0 .0 .0 .1 e), (λ e. absurd (p .0 .0 .0 .0 .0 .1 e), (λ e. absurd (p .0 .0 .0 .0 .1 e), (λ e. absurd (p .0 .0 .0 .1 e), (λ e. absurd (p .0 .0 .1 e), (λ e. absurd (p .0 .1 e), (λ e. absurd (p .1 e), tt))))))))
+      others = (
+        λ e. absurd (p .0 .0 .0 .0 .0 .0 .0 .1 e),
+        (
+          λ e. absurd (p .0 .0 .0 .0 .0 .0 .1 e),
+          (
+            λ e. absurd (p .0 .0 .0 .0 .0 .1 e),
+            (
+              λ e. absurd (p .0 .0 .0 .0 .1 e),
+              (
+                λ e. absurd (p .0 .0 .0 .1 e),
+                (
+                  λ e. absurd (p .0 .0 .1 e),
+                  (
+                    λ e. absurd (p .0 .1 e),
+                    (λ e. absurd (p .1 e), tt),
+                  ),
+                ),
+              ),
+            ),
+          ),
+        ),
+      )
 
       integers : Integers (λ k. Unknown ≡ k) refl n
       integers w = (
         λ d. absurd (no-width 1 d (λ e. u .0 .0 .0 .1 (sym e)) (λ e. u .0 .0 .1 (sym e)) (λ e. u .0 .1 (sym e)) (λ e. u .1 (sym e)) w),
         λ d. absurd (no-width 2 d (λ e. h .0 .0 .0 .1 (sym e)) (λ e. h .0 .0 .1 (sym e)) (λ e. h .0 .1 (sym e)) (λ e. h .1 (sym e)) w),
       )
+
+-- a number of more than two hex digits
+far : (n : ℕ) → 0x0100 ≤ n → Unknown ≡ scalarKind n
+unfolding scalarKind integerKind
+far n h = rw (le-ltb n 0x0010 (omega arith), ne-eqb (n / 16) 1 (λ e. omega (arith, mod-add-div n 16)), ne-eqb (n / 16) 2 (λ e. omega (arith, mod-add-div n 16))) (go (isWidth (n % 16)))
+  where
+    go : (b : Bool) → Unknown ≡ pick b Unknown Unknown
+    go true = refl
+    go false = refl
+
+-- ---- one law for each exit of `kind_of`
+module _ (n : ℕ) where
+  digits : n % 0x0100 + 0x0100 * (n / 0x0100) ≡ n
+  digits = mod-add-div n 0x0100
+
+  pub kind-scalar : n / 0x0100 ≡ 0 → {k : Kind} → k ≡ scalarKind (n % 0x0100) → k ≡ kindOf n
+  unfolding kindOf
+  kind-scalar e h = h ∙ rw (lt-ltb n 0x0100 (omega (arith, digits))) (ap scalarKind (omega (arith, digits)))
+
+  pub kind-array : n / 0x0100 ≡ 1 → {k a : Kind} → k ≡ scalarKind (n % 0x0100) → a ≡ arrayOf (n % 0x0100) k → a ≡ kindOf n
+  unfolding kindOf
+  kind-array e {k} h f =
+      let o : n % 0x0100 ≡ n - 0x0100 = omega (arith, digits) in
+      f ∙ rw (le-ltb n 0x0100 (omega (arith, digits)), h, o)
+
+  pub kind-none : (n / 0x0100 ≡ 0 → ⊥) → (n / 0x0100 ≡ 1 → ⊥) → Unknown ≡ kindOf n
+  unfolding kindOf
+  kind-none a b =
+      let l : 0x0200 ≤ n = omega (arith, digits) in
+      rw (le-ltb n 0x0100 (omega arith), ← far (n - 0x0100) (omega arith)) refl

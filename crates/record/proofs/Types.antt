@@ -95,7 +95,7 @@ sized = said-kind Sized (λ n. each-scalar (Said Sized) tt n others (λ w. (λ d
     others = (λ e. tt, (λ e. inl refl, (λ e. inr refl, (λ e. tt, (λ e. tt, (λ e. tt, (λ e. tt, (λ e. tt, tt))))))))
 
 -- 02 Q-2 "the last hex digit is the body's bytes": so no other numbers than its eight are integers'
-abbrev Digits : (number : ℕ) → ValueType → Type 0
+abbrev pub Digits : (number : ℕ) → ValueType → Type 0
 Digits n t = t .family ≡ Integer → (n ≡ pick (t .signed) 0x0020 0x0010 + t .width) × IsWidth (t .width)
 
 apart : (f : Family) → eqb (row f) (row Integer) ≡ false → f ≡ Integer → ⊥
@@ -103,6 +103,26 @@ apart f n e = eqb-false (row f) (row Integer) n (ap row e)
 
 pub integer-digits : (n : ℕ) → Said (Digits n) (scalarKind n)
 integer-digits n =
-    each-scalar (Said (Digits n)) tt n
-    (λ m e. absurd (apart Boolean refl e), (λ m e. absurd (apart Real refl e), (λ m e. absurd (apart Real refl e), (λ m e. absurd (apart Text refl e), (λ m e. absurd (apart Char16 refl e), (λ m e. absurd (apart Octets refl e), (λ m e. absurd (apart Datetime refl e), (λ m e. absurd (apart Reference refl e), tt))))))))
+    each-scalar (Said (Digits n)) tt n (
+      λ m e. absurd (apart Boolean refl e),
+      (
+        λ m e. absurd (apart Real refl e),
+        (
+          λ m e. absurd (apart Real refl e),
+          (
+            λ m e. absurd (apart Text refl e),
+            (
+              λ m e. absurd (apart Char16 refl e),
+              (
+                λ m e. absurd (apart Octets refl e),
+                (
+                  λ m e. absurd (apart Datetime refl e),
+                  (λ m e. absurd (apart Reference refl e), tt),
+                ),
+              ),
+            ),
+          ),
+        ),
+      ),
+    )
     (λ w. (λ d e. (omega (arith, mod-add-div n 16), w), λ d e. (omega (arith, mod-add-div n 16), w)))

@@ -3,12 +3,13 @@ use Prim.Native.Nat.{ℕ, zero, suc, _+_, _-_, _/_, _^_, _<_}
 use mathlib.Core.List.{List, _++_}
 use mathlib.Core.Path.{_≡_, refl, sym, ap, _∙_}
 use native.Mathlib.Omega.{arith}
-use native.Mathlib.Nat.{mod-add-div, pow-succ'}
+use native.Mathlib.Nat.{mod-add-div, mod-lt, pow-succ'}
 use lib.ListN.{length, length-append}
 use lib.Seq.{take-append-seam}
 use lib.IntN.{ℤ, pos, negsuc}
 use Rattle.base.specs.Part.{part}
 use Rattle.base.specs.LittleEndian.{unsigned}
+use Rattle.base.proofs.ByteLists.{Bytes}
 use Rattle.record.specs.declared.read.RecordAt.the-variants.{Whole}
 use Rattle.record.specs.Record.{recordAt, item, records}
 use Rattle.record.specs.Write.{littleEndian, stored, write}
@@ -29,10 +30,21 @@ unfolding littleEndian
 length-written zero n = refl
 length-written (suc width) n = ap suc (length-written width (n / 256))
 
+pub bytes-written : (width n : ℕ) → Bytes (littleEndian width n)
+unfolding littleEndian
+bytes-written zero n k = omega arith
+bytes-written (suc width) n zero = mod-lt n (omega arith)
+bytes-written (suc width) n (suc k) = bytes-written width (n / 256) k
+
 pub length-stored : (width : ℕ) (z : ℤ) → length (stored width z) ≡ width
 unfolding stored
 length-stored width (pos n) = length-written width n
 length-stored width (negsuc n) = length-written width (256 ^ width - 1 - n)
+
+pub bytes-stored : (width : ℕ) (z : ℤ) → Bytes (stored width z)
+unfolding stored
+bytes-stored width (pos n) = bytes-written width n
+bytes-stored width (negsuc n) = bytes-written width (256 ^ width - 1 - n)
 
 pub length-write : (kind : ℕ) (b : List ℕ) → length (write kind b) ≡ 4 + length b
 unfolding write littleEndian

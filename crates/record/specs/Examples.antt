@@ -14,12 +14,12 @@ use Rattle.record.specs.Kind.{scalarOf}
 -- two records; one; then one to three bytes left over, and a body that runs past the end
 abbrev pub slices : List (List ℕ × Records)
 slices =
-    (write 0x0102 (7 ∷ 8 ∷ []) ++ write 3 [], item 0 0x0102 4 2 (item 6 3 10 0 ended))
-    ∷ (1 ∷ 0 ∷ 2 ∷ 1 ∷ 7 ∷ [], item 0 0x0102 4 1 ended)
+    (write 0x0108 (7 ∷ 8 ∷ []) ++ write 6 [], item 0 0x0108 4 2 (item 6 6 10 0 ended))
+    ∷ (1 ∷ 0 ∷ 8 ∷ 1 ∷ 7 ∷ [], item 0 0x0108 4 1 ended)
     ∷ ([], ended)
     ∷ (write 0 [] ++ (0 ∷ []), item 0 0 4 0 (broken 4))
     ∷ (0 ∷ 0 ∷ 0 ∷ [], broken 0)
-    ∷ (1 ∷ 0 ∷ 2 ∷ 1 ∷ [], broken 0)
+    ∷ (1 ∷ 0 ∷ 8 ∷ 1 ∷ [], broken 0)
     ∷ []
 
 abbrev pub names : List (List ℕ × Bool)

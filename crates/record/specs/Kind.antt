@@ -40,7 +40,7 @@ find n (t ∷ ts) = pick (eqb n (t .number)) (t .says) (find n ts)
 abbrev pub isWidth : ℕ → Bool
 isWidth w = eqb w 1 || (eqb w 2 || (eqb w 4 || eqb w 8))
 
--- the first hex digit: 1 is without a sign, 2 with one
+-- the digit before it: 1 is without a sign, 2 with one
 abbrev pub integerOf : (digit width : ℕ) → Kind
 integerOf d w = pick (eqb d 1) (scalarOf Integer w false) (pick (eqb d 2) (scalarOf Integer w true) Unknown)
 

@@ -77,10 +77,12 @@ fn array_of(element: usize, kind: Kind) -> Kind
 pub fn kind_of(number: usize) -> Kind
     ensures { λ r. ⌜ r ≡ kindOf number ⌝ }
 {
-    if number < 0x0100 {
-        return scalar_kind(number);
+    let kind = scalar_kind(number % 0x0100);
+    match number / 0x0100 {
+        0 => kind,
+        1 => array_of(number % 0x0100, kind),
+        _ => Kind::Unknown,
     }
-    array_of(number - 0x0100, scalar_kind(number - 0x0100))
 }
 
 // The number of a family's row.
