@@ -1,7 +1,7 @@
 //! The bound of the steps, by hand: for each comparison of the text one and what it reads, which is the whole left
 //! array (arrays compared, ANY, EVERY) or the whole text of a LIKE, and nothing where that is NULL.
 
-use reference::examples::setting::{array, null, types, unsigned};
+use reference::examples::setting::{array, null, types, uint64};
 use reference::examples::Setting;
 use reference::kind::UINT64;
 
@@ -48,6 +48,6 @@ fn of_null() {
 fn of_several_comparisons() {
     assert_eq!(bound(&types(), "U = 5 OR S LIKE 'x'"), 7);
     assert_eq!(bound(&types(), "(U = 6 AND Us = {3}) OR (ANY Us = 3 AND S LIKE 'x')"), 13);
-    let many = types().with("Us", array(UINT64, &vec![unsigned(1); 256]));
+    let many = types().with("Us", array(UINT64, &vec![uint64(1); 256]));
     assert_eq!(bound(&many, "ANY Us = 1 OR Us = {}"), 514);
 }

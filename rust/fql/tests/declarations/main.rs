@@ -128,8 +128,8 @@ fn constant_of(cause: Cause) -> String {
     format!("FQL{}", name.chars().map(part).collect::<String>())
 }
 
-#[test]
-fn the_header_s_numbers_are_those_of_the_wrapper() {
+/// The numbers of the wrapper by the header's names, in any order.
+fn numbers() -> Vec<(String, u64)> {
     let own = |(name, number): (&str, u16)| (name.to_owned(), u64::from(number));
     let records = [
         ("FQL_RECORD_NULL", record::NULL),
@@ -142,12 +142,30 @@ fn the_header_s_numbers_are_those_of_the_wrapper() {
     let marks = marks.map(|(name, byte)| (name, u16::from(byte)));
     let sources = [("FQL_NOTHING", 0), ("FQL_OF_QUERY", 1), ("FQL_OF_TABLE", 2)];
     let expected = records.into_iter().map(own).chain(types).chain(causes);
-    let expected = expected.chain(marks.map(own)).chain(sources.map(own));
-    assert_eq!(sorted(constants(HEADER)), sorted(expected.collect()));
+    expected.chain(marks.map(own)).chain(sources.map(own)).collect()
 }
 
-/// The order of constants says nothing.
 fn sorted(mut constants: Vec<(String, u64)>) -> Vec<(String, u64)> {
     constants.sort();
     constants
+}
+
+#[test]
+fn the_header_s_numbers_are_those_of_the_wrapper() {
+    assert_eq!(sorted(constants(HEADER)), sorted(numbers()));
+}
+
+#[test]
+fn a_changed_number_is_noticed() {
+    for (old, new) in [
+        ("FQL_TYPE_SINT8 = 0x0021", "FQL_TYPE_SINT8 = 0x0022"),
+        ("FQL_TYPE_UINT64 = 0x0018", "FQL_TYPE_UINT64 = 2"),
+        ("FQL_TYPE_ARRAY = 0x0100", "FQL_TYPE_ARRAY = 0x1000"),
+        ("FQL_TYPE_REAL64 = 5", "FQL_TYPE_REAL = 5"),
+        ("FQL_RECORD_CLASS = 0x0200", "FQL_RECORD_CLASS = 0x0300"),
+        ("FQL_FAILED = 255", "FQL_FAILED = 2"),
+        ("FQL_RUN = 40", "FQL_RUN = 41"),
+    ] {
+        assert_ne!(sorted(constants(&edited(HEADER, old, new))), sorted(numbers()), "{new}");
+    }
 }

@@ -6,7 +6,7 @@ use std::collections::BTreeMap;
 use fql::record::ARRAY;
 use fql::types::{BOOLEAN, CHAR16, DATETIME, REAL64, REFERENCE, SINT64, STRING, UINT64};
 use reference::examples::setting::{
-    array, char16, datetime, real64, reference as key, signed, text, truth, unsigned, Setting,
+    array, char16, datetime, real64, reference as key, sint64, text, truth, uint64, Setting,
 };
 use reference::queries::{damaged, well_formed};
 use reference::random::{for_each_seed, Random};
@@ -18,11 +18,11 @@ fn setting() -> Setting {
     Setting::new(
         "P",
         &[
-            ("U", UINT64, unsigned(5)),
-            ("Us", ARRAY | UINT64, array(UINT64, &[unsigned(5), unsigned(0)])),
+            ("U", UINT64, uint64(5)),
+            ("Us", ARRAY | UINT64, array(UINT64, &[uint64(5), uint64(0)])),
             ("S", STRING, text("x")),
             ("Name", STRING, text("\u{41bc}")),
-            ("Temp_2", SINT64, signed(-5)),
+            ("Temp_2", SINT64, sint64(-5)),
             ("_x1", DATETIME, datetime("20051003112233.000000+000")),
             ("Dev", ARRAY | UINT64, array(UINT64, &[])),
             ("notany", CHAR16, char16(0xffff)),

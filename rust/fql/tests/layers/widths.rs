@@ -130,21 +130,20 @@ fn failure(kind: u16, record: &[u8]) -> Option<(u64, u64)> {
 }
 
 /// A body of another length is 31 at its record, and inside an array at the array's.
+fn hold_to_length((kind, bytes, ..): Integer, length: usize, byte: u8) {
+    let expected = (length != bytes).then_some((31, 5));
+    let (good, value) = (write(kind, &vec![byte; bytes]), write(kind, &vec![byte; length]));
+    assert_eq!(failure(kind, &value), expected, "{kind:#06x}, {length} bytes");
+    for elements in [vec![value.clone()], vec![good, write(NULL, &[]), value]] {
+        let array = write(ARRAY | kind, &elements.concat());
+        assert_eq!(failure(ARRAY | kind, &array), expected, "{kind:#06x}, {length} bytes in an array");
+    }
+}
+
 #[test]
 fn every_length() {
-    for (kind, bytes, ..) in INTEGERS {
-        for length in 0..=20 {
-            let expected = (length != bytes).then_some((31, 5));
-            for byte in [0, 1, 0x80, 0xff] {
-                let value = write(kind, &vec![byte; length]);
-                assert_eq!(failure(kind, &value), expected, "{kind:#06x}, {length} bytes");
-                let good = write(kind, &vec![byte; bytes]);
-                for elements in [vec![value.clone()], vec![good, write(NULL, &[]), value]] {
-                    let array = write(ARRAY | kind, &elements.concat());
-                    assert_eq!(failure(ARRAY | kind, &array), expected, "{kind:#06x}, {length} bytes in an array");
-                }
-            }
-        }
+    for (integer, length) in INTEGERS.into_iter().flat_map(|integer| (0..=20).map(move |length| (integer, length))) {
+        [0, 1, 0x80, 0xff].into_iter().for_each(|byte| hold_to_length(integer, length, byte));
     }
 }
 

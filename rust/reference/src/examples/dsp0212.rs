@@ -1,28 +1,28 @@
 //! The examples of DSP0212, 5.2.5 to 5.2.8 and 5.4. Its grammar stands above them: `Dedicated ANY 3` and double-quoted
 //! strings are no FQL. The blank in `Operational States` and the broken lines are of the print.
 
-use super::setting::{array, datetime, signed, text, truth, unsigned, Setting};
+use super::setting::{array, datetime, sint64, text, truth, uint64, Setting};
 use super::Example;
 use super::Expected::{Excluded, Included, Refused};
 use crate::kind::{ARRAY, BOOLEAN, DATETIME, SINT64, STRING, UINT64};
 
 fn metric() -> Setting {
-    let uint = |numbers: &[u64]| array(UINT64, &numbers.iter().map(|&n| unsigned(n)).collect::<Vec<_>>());
+    let uint = |numbers: &[u64]| array(UINT64, &numbers.iter().map(|&n| uint64(n)).collect::<Vec<_>>());
     Setting::new(
         "Metric",
         &[
             ("Started", BOOLEAN, truth(true)),
             ("StartMode", STRING, text("Manual")),
-            ("Threshold", UINT64, unsigned(30)),
+            ("Threshold", UINT64, uint64(30)),
             ("CreationClassName", STRING, text("CIM_Service")),
             ("Dedicated", ARRAY | UINT64, uint(&[3, 14])),
-            ("RequestedState", UINT64, unsigned(2)),
-            ("EnabledState", UINT64, unsigned(2)),
+            ("RequestedState", UINT64, uint64(2)),
+            ("EnabledState", UINT64, uint64(2)),
             ("SystemTime", DATETIME, datetime("20051003112233.000000+000")),
             ("InstallDate", DATETIME, datetime("20060101000000.000000+000")),
             ("OperationalStates", ARRAY | UINT64, uint(&[2, 5])),
-            ("Temperatures", ARRAY | SINT64, array(SINT64, &[signed(20), signed(40)])),
-            ("MaxTemperature", SINT64, signed(30)),
+            ("Temperatures", ARRAY | SINT64, array(SINT64, &[sint64(20), sint64(40)])),
+            ("MaxTemperature", SINT64, sint64(30)),
         ],
     )
 }
@@ -46,7 +46,7 @@ fn of_the_clauses() -> Vec<Example> {
         ("NOT EVERY Temperatures < MaxTemperature", Included(3)),
         ("EVERY Temperatures < MaxTemperature", Excluded(3)),
     ]);
-    let other = Setting::new("Service", &[("Threshold", UINT64, unsigned(30))]);
+    let other = Setting::new("Service", &[("Threshold", UINT64, uint64(30))]);
     out.extend(other.ask(&[("Metric.Threshold > 25", Refused(20, 0))]));
     out
 }
@@ -76,7 +76,7 @@ fn of_the_list() -> Vec<Example> {
 /// The same queries where the answer is the other one.
 fn on_other_instances() -> Vec<Example> {
     let both = "(Started = true and startmode='manual') OR (Started=False and\nStartmode='Automatic')";
-    let uint = |numbers: &[u64]| array(UINT64, &numbers.iter().map(|&n| unsigned(n)).collect::<Vec<_>>());
+    let uint = |numbers: &[u64]| array(UINT64, &numbers.iter().map(|&n| uint64(n)).collect::<Vec<_>>());
     let stopped = metric().with("Started", truth(false));
     let order = metric().with("Dedicated", uint(&[14, 9, 3]));
     let five = metric().with("Dedicated", uint(&[5, 5]));
@@ -85,7 +85,7 @@ fn on_other_instances() -> Vec<Example> {
     out.extend(
         stopped.ask(&[("Started = TRUE", Excluded(1)), ("Started = TRUE AND StartMode = 'Manual'", Excluded(1))]),
     );
-    out.extend(metric().with("Threshold", unsigned(25)).ask(&[("Threshold > 25", Excluded(1))]));
+    out.extend(metric().with("Threshold", uint64(25)).ask(&[("Threshold > 25", Excluded(1))]));
     let named = metric().with("CreationClassName", text("ACME_Disk"));
     out.extend(named.ask(&[("CreationClassName NOT LIKE 'CIM_.*'", Included(10))]));
     out.extend(order.ask(&[
@@ -94,6 +94,6 @@ fn on_other_instances() -> Vec<Example> {
         ("ANY Dedicated = 3 AND NOT ANY Dedicated = 2", Included(8)),
     ]));
     out.extend(five.ask(&[("NOT EVERY Dedicated = 5", Excluded(3))]));
-    out.extend(metric().with("EnabledState", unsigned(3)).ask(&[("RequestedState = EnabledState", Excluded(1))]));
+    out.extend(metric().with("EnabledState", uint64(3)).ask(&[("RequestedState = EnabledState", Excluded(1))]));
     out
 }

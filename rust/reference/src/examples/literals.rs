@@ -1,6 +1,6 @@
 //! Literals: their range and value (01, "Query text"; number 23).
 
-use super::setting::{array, octets, real32, real64, types, unsigned};
+use super::setting::{array, octets, real32, real64, types, uint64};
 use super::Example;
 use super::Expected::{Excluded, Included, Refused};
 use crate::kind::UINT64;
@@ -34,8 +34,8 @@ fn integers() -> Vec<Example> {
         ("I = -0x05", Included(1)),
         ("I = 0xFB", Excluded(1)),
     ]);
-    out.extend(types().with("U", unsigned(0)).ask(&[("U = -0", Included(1)), ("U = -0x00", Included(1))]));
-    out.extend(types().with("U", unsigned(u64::MAX)).ask(&[
+    out.extend(types().with("U", uint64(0)).ask(&[("U = -0", Included(1)), ("U = -0x00", Included(1))]));
+    out.extend(types().with("U", uint64(u64::MAX)).ask(&[
         ("U = 18446744073709551615", Included(1)),
         ("U = 0xffffFFFFffffFFFF", Included(1)),
         ("U > -1", Included(1)),
@@ -56,7 +56,7 @@ fn long_integers() -> Vec<Example> {
         (format!("U = 0x01{}", "00".repeat(8)), Refused(23, 4)),
         (format!("U = -0x01{}", "00".repeat(8)), Refused(23, 4)),
     ]);
-    let most = types().with("U", unsigned(u64::MAX));
+    let most = types().with("U", uint64(u64::MAX));
     out.extend(most.ask(&[(format!("U = {}B", "1".repeat(64)), Included(1))]));
     out
 }

@@ -1,6 +1,6 @@
 //! What a comparison says, and its steps (01, "Meaning" and "Steps").
 
-use super::setting::{array, char16, null, real32, real64, reference, text, truth, types, unsigned};
+use super::setting::{array, char16, null, real32, real64, reference, text, truth, types, uint64};
 use super::Example;
 use super::Expected::{Excluded, Included, Refused};
 use crate::kind::{REAL64, UINT64};
@@ -66,7 +66,7 @@ fn indexes() -> Vec<Example> {
         ("Us[0] <> 3", Included(1)),
         ("Us[0] > 3", Excluded(1)),
     ]));
-    let none = types().with("Us", array(UINT64, &[null(), unsigned(4)]));
+    let none = types().with("Us", array(UINT64, &[null(), uint64(4)]));
     out.extend(none.ask(&[("Us[0] = NULL", Included(1)), ("Us[1] = 4", Included(1)), ("Us[0] = Us[2]", Included(1))]));
     out
 }
@@ -213,7 +213,7 @@ fn arrays_with_nulls() -> Vec<Example> {
         ("Us = {NULL}", Excluded(1)),
         ("Us = Is", Excluded(1)),
     ]);
-    out.extend(of(&[null(), unsigned(14)]).ask(&[
+    out.extend(of(&[null(), uint64(14)]).ask(&[
         ("Us = {NULL,14}", Included(3)),
         ("Us = {0,14}", Excluded(2)),
         ("Us = Us", Included(3)),
@@ -276,8 +276,8 @@ fn quantifiers_on_few_elements() -> Vec<Example> {
         ("NOT ANY Us = 3", Included(1)),
         ("NOT EVERY Us = 3", Included(1)),
     ]));
-    let mut many = vec![unsigned(1); 256];
-    many[255] = unsigned(2);
+    let mut many = vec![uint64(1); 256];
+    many[255] = uint64(2);
     out.extend(types().with("Us", array(UINT64, &many)).ask(&[
         ("ANY Us = 1", Included(2)),
         ("ANY Us = 2", Included(257)),
@@ -299,7 +299,7 @@ fn quantifiers_and_nulls() -> Vec<Example> {
         ("ANY Us < 3", Excluded(2)),
         ("NOT ANY Us >= 3", Included(2)),
     ]);
-    let both = types().with("Us", array(UINT64, &[unsigned(3), null()]));
+    let both = types().with("Us", array(UINT64, &[uint64(3), null()]));
     out.extend(both.with("U", null()).ask(&[
         ("ANY Us = U", Included(3)),
         ("EVERY Us <> U", Excluded(3)),

@@ -1,6 +1,6 @@
 //! Files with what the program prints (01, "A fan to try", last part; 02, Q-1).
 
-use super::setting::{array, null, sample, text, truth, unsigned};
+use super::setting::{array, null, sample, text, truth, uint64};
 use crate::kind::{INSTANCE, NULL, STRING, UINT64};
 use crate::program::Files;
 use crate::record::write;
@@ -67,7 +67,7 @@ fn answered() -> Vec<ProgramExample> {
     let on = sample().instance();
     let off = sample().with("On", truth(false)).instance();
     let long = sample().with("Name", text(&"n".repeat(60_000))).instance();
-    let many = sample().with("Dev", array(UINT64, &vec![unsigned(9); 256])).instance();
+    let many = sample().with("Dev", array(UINT64, &vec![uint64(9); 256])).instance();
     vec![
         tried("On = TRUE", sample_run(), OF_THE_SAMPLE),
         tried("Dev = {14,3}", sample_run(), "1 excluded 2\n2 failed 31\ntotal 2 0 1 1\n"),

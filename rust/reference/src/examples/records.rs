@@ -1,7 +1,7 @@
 //! Tables and instances that are well-formed, or not (01, "Records"; numbers 2, 3, 30 and 31).
 
 use super::setting::{
-    array, char16, datetime, null, octets, real64, reference, sample, signed, text, truth, types, unsigned,
+    array, char16, datetime, null, octets, real64, reference, sample, sint64, text, truth, types, uint64,
 };
 use super::Example;
 use super::Expected::{self, Excluded, Included, Refused};
@@ -170,7 +170,7 @@ fn wrong_records() -> Vec<Example> {
         ("On", write(ARRAY | BOOLEAN, &[])),
         ("Temp", write(SINT64, &[0; 7])),
         ("Temp", write(SINT64, &[0; 9])),
-        ("Temp", unsigned(5)),
+        ("Temp", uint64(5)),
         ("Name", write(STRING, &[0xc0, 0x80])),
         ("Name", write(STRING, &[0xed, 0xa0, 0x80])),
         ("Name", write(STRING, &[0xf4, 0x90, 0x80, 0x80])),
@@ -190,18 +190,18 @@ fn wrong_records() -> Vec<Example> {
 
 fn wrong_arrays() -> Vec<Example> {
     let wrong = [
-        unsigned(3),
+        uint64(3),
         write(ARRAY | SINT64, &[]),
         write(ARRAY | UINT32, &[]),
         write(0x0218, &[]),
         array(UINT64, &[write(ARRAY | UINT64, &[])]),
-        array(UINT64, &[signed(3)]),
+        array(UINT64, &[sint64(3)]),
         array(UINT64, &[write(UINT64, &[0; 7])]),
         array(UINT64, &[write(NULL, &[0])]),
-        array(UINT64, &[unsigned(3), vec![0]]),
-        array(UINT64, &[unsigned(3), vec![1, 0, 0x18, 0]]),
+        array(UINT64, &[uint64(3), vec![0]]),
+        array(UINT64, &[uint64(3), vec![1, 0, 0x18, 0]]),
         array(UINT64, &vec![null(); 257]),
-        array(UINT64, &vec![unsigned(1); 257]),
+        array(UINT64, &vec![uint64(1); 257]),
     ];
     let mut out: Vec<Example> = wrong
         .into_iter()

@@ -66,8 +66,8 @@ pub fn sample() -> Setting {
         "P",
         &[
             ("On", BOOLEAN, truth(true)),
-            ("Temp", SINT64, signed(-5)),
-            ("Dev", ARRAY | UINT64, array(UINT64, &[unsigned(3), unsigned(14)])),
+            ("Temp", SINT64, sint64(-5)),
+            ("Dev", ARRAY | UINT64, array(UINT64, &[uint64(3), uint64(14)])),
             ("Name", STRING, text("FAN_2")),
             ("Since", DATETIME, datetime("20051003112233.000000+000")),
             ("R", REAL64, real64(0.5)),
@@ -81,8 +81,8 @@ pub fn types() -> Setting {
         "P",
         &[
             ("B", BOOLEAN, truth(true)),
-            ("U", UINT64, unsigned(5)),
-            ("I", SINT64, signed(-5)),
+            ("U", UINT64, uint64(5)),
+            ("I", SINT64, sint64(-5)),
             ("F", REAL32, real32(0.5)),
             ("D", REAL64, real64(0.5)),
             ("S", STRING, text("FAN_2")),
@@ -91,8 +91,8 @@ pub fn types() -> Setting {
             ("T", DATETIME, datetime("20051003112233.000000+000")),
             ("K", REFERENCE, reference("a/b")),
             ("Bs", ARRAY | BOOLEAN, array(BOOLEAN, &[truth(true), truth(false)])),
-            ("Us", ARRAY | UINT64, array(UINT64, &[unsigned(3), unsigned(14)])),
-            ("Is", ARRAY | SINT64, array(SINT64, &[signed(-1), signed(2)])),
+            ("Us", ARRAY | UINT64, array(UINT64, &[uint64(3), uint64(14)])),
+            ("Is", ARRAY | SINT64, array(SINT64, &[sint64(-1), sint64(2)])),
             ("Fs", ARRAY | REAL32, array(REAL32, &[real32(0.5)])),
             ("Ds", ARRAY | REAL64, array(REAL64, &[real64(0.5), real64(1.5)])),
             ("Ss", ARRAY | STRING, array(STRING, &[text("a"), text("bc")])),
@@ -100,8 +100,8 @@ pub fn types() -> Setting {
             ("Os", ARRAY | OCTETS, array(OCTETS, &[octets(&[1]), octets(&[2, 3])])),
             ("Ts", ARRAY | DATETIME, array(DATETIME, &[datetime("20051003112233.000000+000")])),
             ("Ks", ARRAY | REFERENCE, array(REFERENCE, &[reference("k")])),
-            ("And", UINT64, unsigned(7)),
-            ("Any", ARRAY | UINT64, array(UINT64, &[unsigned(7)])),
+            ("And", UINT64, uint64(7)),
+            ("Any", ARRAY | UINT64, array(UINT64, &[uint64(7)])),
             ("Null", STRING, text("n")),
             ("_x1", DATETIME, datetime("00000001000000.000000:000")),
         ],
@@ -116,11 +116,11 @@ pub fn truth(x: bool) -> Vec<u8> {
     write(BOOLEAN, &[u8::from(x)])
 }
 
-pub fn unsigned(n: u64) -> Vec<u8> {
+pub fn uint64(n: u64) -> Vec<u8> {
     write(UINT64, &n.to_le_bytes())
 }
 
-pub fn signed(n: i64) -> Vec<u8> {
+pub fn sint64(n: i64) -> Vec<u8> {
     write(SINT64, &n.to_le_bytes())
 }
 

@@ -1,7 +1,7 @@
 //! Tokens and grammar: whitespace, the longest token that fits, strings, names, brackets (01, "Query text"; number 11,
 //! and 20 where the text is right and the name isn't).
 
-use super::setting::{sample, text, types, unsigned, Setting};
+use super::setting::{sample, text, types, uint64, Setting};
 use super::Example;
 use super::Expected::{Excluded, Included, Refused};
 use crate::kind::UINT64;
@@ -295,7 +295,7 @@ fn names_and_classes() -> Vec<Example> {
         ("Us[0] = Nope[1]", Refused(20, 8)),
         ("U = 5 AND Nope LIKE 'x'", Refused(20, 10)),
     ]);
-    let same = Setting::new("P", &[("P", UINT64, unsigned(5))]);
+    let same = Setting::new("P", &[("P", UINT64, uint64(5))]);
     out.extend(same.ask(&[
         ("P = 5", Included(1)),
         ("P.P = 5", Included(1)),

@@ -1,6 +1,6 @@
 //! 01's wrong turns: for each an input on which it shows.
 
-use super::setting::{array, null, real64, sample, signed, text, types, unsigned};
+use super::setting::{array, null, real64, sample, sint64, text, types, uint64};
 use super::Example;
 use super::Expected::{Excluded, Included, Refused};
 use crate::kind::{SINT64, UINT64};
@@ -23,14 +23,14 @@ fn negative_numbers() -> Vec<Example> {
         ("ANY Dev > Temp", Included(2)),
         ("EVERY Dev < Temp", Excluded(2)),
     ]);
-    out.extend(types().with("U", unsigned(u64::MAX - 4)).ask(&[
+    out.extend(types().with("U", uint64(u64::MAX - 4)).ask(&[
         ("I < U", Included(1)),
         ("I = U", Excluded(1)),
         ("U > I", Included(1)),
         ("U = 18446744073709551611", Included(1)),
         ("I = 18446744073709551611", Excluded(1)),
     ]));
-    let (wide, narrow) = (array(UINT64, &[unsigned(u64::MAX)]), array(SINT64, &[signed(-1)]));
+    let (wide, narrow) = (array(UINT64, &[uint64(u64::MAX)]), array(SINT64, &[sint64(-1)]));
     out.extend(types().with("Us", wide).with("Is", narrow).ask(&[
         ("Us = Is", Excluded(2)),
         ("Us[0] > Is[0]", Included(1)),
