@@ -7,11 +7,12 @@ use mathlib.Core.Logic.{_⊎_, inl, inr}
 use native.Mathlib.Omega.{arith}
 use native.Mathlib.Nat.{mod-add-div}
 use lib.Dec.{ltb, eqb}
-use borrow.Author.Tests.{eqb-true, ne-eqb, lt-ltb, le-ltb}
+use borrow.Author.Tests.{eqb-true, eqb-false, ne-eqb, lt-ltb, le-ltb}
 use Rattle.base.specs.Pick.{pick}
 use Rattle.record.specs.declared.kind.Family.the-variants.{Integer}
+use Rattle.record.specs.declared.kind.ValueType.{ValueType}
 use Rattle.record.specs.declared.kind.Kind.{Kind}
-use Rattle.record.specs.declared.kind.Kind.the-variants.{Unknown}
+use Rattle.record.specs.declared.kind.Kind.the-variants.{Unknown, Scalar, Array}
 use Rattle.record.specs.Kind.{scalarOf, Numbered, types, find, isWidth, integerOf, integerKind, scalarKind, arrayOf, kindOf}
 
 -- ---- the widths of integers
@@ -136,23 +137,51 @@ far n h = rw (le-ltb n 0x0010 (omega arith), ne-eqb (n / 16) 1 (λ e. omega (ari
     go true = refl
     go false = refl
 
+-- a type's number says no array
+abbrev pub NoArray : Kind → Type 0
+NoArray Unknown = Unit
+NoArray (Scalar t) = Unit
+NoArray (Array e t) = ⊥
+
+pub no-array : (n : ℕ) → NoArray (scalarKind n)
+no-array n =
+    each-scalar NoArray tt n (λ e. tt, (λ e. tt, (λ e. tt, (λ e. tt, (λ e. tt, (λ e. tt, (λ e. tt, (λ e. tt, tt)))))))) (λ w. (λ d. tt, λ d. tt))
+
 -- ---- one law for each exit of `kind_of`
 module _ (n : ℕ) where
   digits : n % 0x0100 + 0x0100 * (n / 0x0100) ≡ n
   digits = mod-add-div n 0x0100
 
-  pub kind-scalar : n / 0x0100 ≡ 0 → {k : Kind} → k ≡ scalarKind (n % 0x0100) → k ≡ kindOf n
+  as-array : n / 0x0100 ≡ 1 → arrayOf (n % 0x0100) (scalarKind (n % 0x0100)) ≡ kindOf n
   unfolding kindOf
-  kind-scalar e h = h ∙ rw (lt-ltb n 0x0100 (omega (arith, digits))) (ap scalarKind (omega (arith, digits)))
-
-  pub kind-array : n / 0x0100 ≡ 1 → {k a : Kind} → k ≡ scalarKind (n % 0x0100) → a ≡ arrayOf (n % 0x0100) k → a ≡ kindOf n
-  unfolding kindOf
-  kind-array e {k} h f =
+  as-array e =
       let o : n % 0x0100 ≡ n - 0x0100 = omega (arith, digits) in
-      f ∙ rw (le-ltb n 0x0100 (omega (arith, digits)), h, o)
+      rw (le-ltb n 0x0100 (omega (arith, digits)), o)
 
   pub kind-none : (n / 0x0100 ≡ 0 → ⊥) → (n / 0x0100 ≡ 1 → ⊥) → Unknown ≡ kindOf n
   unfolding kindOf
   kind-none a b =
       let l : 0x0200 ≤ n = omega (arith, digits) in
       rw (le-ltb n 0x0100 (omega arith), ← far (n - 0x0100) (omega arith)) refl
+
+  module _ {k : Kind} (says : k ≡ scalarKind (n % 0x0100)) where
+    as-scalar : n / 0x0100 ≡ 0 → k ≡ kindOf n
+    unfolding kindOf
+    as-scalar e = says ∙ rw (lt-ltb n 0x0100 (omega (arith, digits))) (ap scalarKind (omega (arith, digits)))
+
+    pub kind-scalar : {t : ValueType} → k ≡ Scalar t → n / 0x0100 ≡ 0 → Scalar t ≡ kindOf n
+    kind-scalar i e = sym i ∙ as-scalar e
+
+    pub kind-array : {t : ValueType} → k ≡ Scalar t → n / 0x0100 ≡ 1 → Array (n % 0x0100) t ≡ kindOf n
+    kind-array i e = ap (arrayOf (n % 0x0100)) (sym i ∙ says) ∙ as-array e
+
+    pub kind-unknown : k ≡ Unknown → Unknown ≡ kindOf n
+    kind-unknown i = go (eqb (n / 0x0100) 0) refl (eqb (n / 0x0100) 1) refl
+      where
+        go : (b : Bool) → eqb (n / 0x0100) 0 ≡ b → (c : Bool) → eqb (n / 0x0100) 1 ≡ c → Unknown ≡ kindOf n
+        go true e c f = sym i ∙ as-scalar (eqb-true (n / 0x0100) 0 e)
+        go false e true f = ap (arrayOf (n % 0x0100)) (sym i ∙ says) ∙ as-array (eqb-true (n / 0x0100) 1 f)
+        go false e false f = kind-none (eqb-false (n / 0x0100) 0 e) (eqb-false (n / 0x0100) 1 f)
+
+    pub kind-never : {e : ℕ} {t : ValueType} → k ≡ Array e t → Unknown ≡ kindOf n
+    kind-never i = absurd (rw (sym says ∙ i) at (no-array (n % 0x0100)))

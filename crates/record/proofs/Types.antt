@@ -14,14 +14,9 @@ use Rattle.record.specs.declared.kind.ValueType.{ValueType}
 use Rattle.record.specs.declared.kind.Kind.{Kind}
 use Rattle.record.specs.declared.kind.Kind.the-variants.{Unknown, Scalar, Array}
 use Rattle.record.specs.Kind.{types, scalarKind, arrayOf, kindOf, row}
-use Rattle.record.proofs.Numbers.{IsWidth, Each, each-scalar}
+use Rattle.record.proofs.Numbers.{IsWidth, Each, each-scalar, NoArray, no-array}
 
 -- ---- arrays
-abbrev NoArray : Kind → Type 0
-NoArray Unknown = Unit
-NoArray (Scalar t) = Unit
-NoArray (Array e t) = ⊥
-
 abbrev pub OfElements : Kind → Type 0
 OfElements Unknown = Unit
 OfElements (Scalar t) = Unit
@@ -32,9 +27,6 @@ pub of-elements : (k : ℕ) → OfElements (kindOf k)
 unfolding kindOf
 of-elements k = go (ltb k 0x0100)
   where
-    no-array : NoArray (scalarKind k)
-    no-array = each-scalar NoArray tt k (λ e. tt, (λ e. tt, (λ e. tt, (λ e. tt, (λ e. tt, (λ e. tt, (λ e. tt, (λ e. tt, tt)))))))) (λ w. (λ d. tt, λ d. tt))
-
     plain : (x : Kind) → NoArray x → OfElements x
     plain Unknown h = tt
     plain (Scalar t) h = tt
@@ -46,7 +38,7 @@ of-elements k = go (ltb k 0x0100)
     array e (Array f t) h = tt
 
     go : (b : Bool) → OfElements (pick b (scalarKind k) (arrayOf (k - 0x0100) (scalarKind (k - 0x0100))))
-    go true = plain (scalarKind k) no-array
+    go true = plain (scalarKind k) (no-array k)
     go false = array (k - 0x0100) (scalarKind (k - 0x0100)) refl
 
 -- ---- a property of the type that a kind is about, if it says any

@@ -1,6 +1,6 @@
 // Kinds: what a property's kind says of its values.
 ghost use mathlib.Core.Path.{_≡_};
-ghost use Rattle.record.specs.Kind.{scalarKind, arrayOf, kindOf, row, sameRow};
+ghost use Rattle.record.specs.Kind.{scalarKind, kindOf, row, sameRow};
 
 // The families of types; integers and reals come in widths.
 pub enum Family {
@@ -63,25 +63,21 @@ fn scalar_kind(number: usize) -> Kind
     }
 }
 
-fn array_of(element: usize, kind: Kind) -> Kind
-    ensures { λ r. ⌜ r ≡ arrayOf element kind ⌝ }
-{
-    match kind {
-        Kind::Unknown => Kind::Unknown,
-        Kind::Scalar(of) => Kind::Array { element, of },
-        Kind::Array { element: _, of: _ } => Kind::Unknown,
-    }
-}
-
-// What a property's kind says.
+// What a property's kind says: it is the type, plus 0x0100 for an array.
 pub fn kind_of(number: usize) -> Kind
     ensures { λ r. ⌜ r ≡ kindOf number ⌝ }
 {
-    let kind = scalar_kind(number % 0x0100);
-    match number / 0x0100 {
-        0 => kind,
-        1 => array_of(number % 0x0100, kind),
-        _ => Kind::Unknown,
+    match scalar_kind(number % 0x0100) {
+        Kind::Unknown => Kind::Unknown,
+        Kind::Scalar(of) => match number / 0x0100 {
+            0 => Kind::Scalar(of),
+            1 => Kind::Array {
+                element: number % 0x0100,
+                of,
+            },
+            _ => Kind::Unknown,
+        },
+        Kind::Array { element: _, of: _ } => Kind::Unknown,
     }
 }
 
