@@ -4,7 +4,7 @@ use mathlib.Core.List.{List}
 use mathlib.Core.Bool.{Bool, true, false}
 use mathlib.Core.Path.{_≡_, refl, sym, ap, _∙_}
 use native.Mathlib.Omega.{arith}
-use native.Mathlib.Nat.{pow-succ', pow-le-pow-right}
+use native.Mathlib.Nat.{pow-succ'}
 use lib.ListN.{length}
 use lib.Seq.{take-all}
 use lib.Dec.{leb}
@@ -12,7 +12,7 @@ use lib.IntN.{ℤ, pos, negsuc}
 use borrow.Author.Tests.{leb-true, leb-false}
 use Rattle.base.specs.Pick.{pick}
 use Rattle.base.specs.LittleEndian.{unsigned, twosComplement}
-use Rattle.base.proofs.LittleEndian.{signed-low, signed-high}
+use Rattle.base.proofs.LittleEndian.{room, signed-low, signed-high}
 use Rattle.base.proofs.ByteLists.{Bytes, unsigned-below}
 use Rattle.record.specs.Kind.{kindOf}
 use Rattle.record.specs.Write.{littleEndian, stored}
@@ -45,10 +45,10 @@ range-signed s h = go (leb (unsigned s) ((256 ^ length s - 1) / 2)) refl
         let u = unsigned-below s h in
         rw (← signed-high s (256 ^ length s - 1) refl ones l u) (omega (arith, positive (length s)))
 
--- what a body of `w` bytes holds is a number of that width
-range : (g : Bool) (w : ℕ) (s : List ℕ) → w ≤ 8 → Bytes s → length s ≡ w → InRange g w (wholeIn g s)
-range false w s z h e = let q = take-all 8 s (omega arith) in rw (← e, q) (unsigned-below s h)
-range true w s z h e = let q = take-all 8 s (omega arith) in rw (← e, q) (range-signed s h)
+-- what bytes hold is a number of their width
+range : (g : Bool) (s : List ℕ) → Bytes s → InRange g (length s) (pick g (twosComplement s) (pos (unsigned s)))
+range false s h = unsigned-below s h
+range true s h = range-signed s h
 
 -- up to 8 bytes all are read
 all-read : (g : Bool) (s : List ℕ) → length s ≤ 8 → wholeIn g s ≡ pick g (twosComplement s) (pos (unsigned s))
@@ -59,7 +59,8 @@ pub reads-whole : (t : ValueType) (s : List ℕ) → Sized t → t .family ≡ I
 reads-whole t s z e h b =
     let l : length s ≡ t .width = rw e at h in
     let w : (1 ≤ t .width) × (t .width ≤ 8) = rw e at z in
-    record { bytes = l; number = all-read (t .signed) s (omega (arith, w .1)); range = range (t .signed) (t .width) s (w .1) b l }
+    let n = all-read (t .signed) s (omega (arith, w .1)) in
+    record { bytes = l; number = n; range = rw (n, ← l) (range (t .signed) s b) }
 
 -- every integer so, of a scalar's kind or of an array's: no width has a law of its own
 abbrev pub IntegerReads : ValueType → Type 0
@@ -95,14 +96,11 @@ back true (suc k) (negsuc n) one h =
 pub stored-reads : (g : Bool) (w : ℕ) (z : ℤ) → 1 ≤ w → w ≤ 8 → InRange g w z → wholeIn g (stored w z) ≡ z
 stored-reads g w z one few h = all-read g (stored w z) (omega (arith, length-stored w z)) ∙ back g w z one h
 
-powers : (w v : ℕ) → w ≤ v → 256 ^ w ≤ 256 ^ v
-powers w v h = pow-le-pow-right (omega arith) h
-
 pub range-wider : (g : Bool) (w : ℕ) (h : Bool) (v : ℕ) (z : ℤ) → HoldsAll g w h v → InRange g w z → InRange h v z
-range-wider false w false v (pos n) l r = omega (arith, r, powers w v l)
+range-wider false w false v (pos n) l r = omega (arith, r, room w v l)
 range-wider false w false v (negsuc n) l r = absurd r
-range-wider false w true v (pos n) l r = omega (arith, r, powers (suc w) v l, pow-succ' 256 w)
+range-wider false w true v (pos n) l r = omega (arith, r, room (suc w) v l, pow-succ' 256 w)
 range-wider false w true v (negsuc n) l r = absurd r
 range-wider true w false v z l r = absurd l
-range-wider true w true v (pos n) l r = omega (arith, r, powers w v l)
-range-wider true w true v (negsuc n) l r = omega (arith, r, powers w v l)
+range-wider true w true v (pos n) l r = omega (arith, r, room w v l)
+range-wider true w true v (negsuc n) l r = omega (arith, r, room w v l)

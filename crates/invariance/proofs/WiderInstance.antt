@@ -54,7 +54,7 @@ integer-kinds (scalar h w) = scalars h
 integer-kinds (wider.array h w) = arrays h
 
 -- ---- integers
-module _ (e f : ℕ) (a b : ValueType) (i : Integers a b) where
+module _ (a b : ValueType) (i : Integers a b) where
   number-fits : (x y : List ℕ) → SameNumber a b x y → HasType b y
   number-fits x y w = subst (λ (g : family.Family). HasFamily g (b .width) y) (sym (i .1)) (w .0)
 
@@ -65,9 +65,10 @@ module _ (e f : ℕ) (a b : ValueType) (i : Integers a b) where
       ∙ ap whole (w .1)
       ∙ sym (ap (λ (g : family.Family). familyValue g (a .width) (a .signed) x) (i .0))
 
+module _ (e f : ℕ) (a b : ValueType) (i : Integers a b) where
   element-fits : (k : ℕ) (x : List ℕ) (l : ℕ) (y : List ℕ) → SameElement e f a b k x l y → Slot f l y (HasType b y)
   element-fits k x l y (inl w) = inl (w .1)
-  element-fits k x l y (inr w) = inr (w .1 .0, number-fits x y (w .1 .1))
+  element-fits k x l y (inr w) = inr (w .1 .0, number-fits a b i x y (w .1 .1))
 
   module _ (x y : List ℕ) where
     counts : {rs qs : Records} → Paired x y (SameElement e f a b) rs qs → count qs ≡ count rs
@@ -83,7 +84,7 @@ module _ (e f : ℕ) (a b : ValueType) (i : Integers a b) where
     module _ (ne : eqb e 0 ≡ false) (nf : eqb f 0 ≡ false) where
       element-same : (k : ℕ) (x : List ℕ) (l : ℕ) (y : List ℕ) → SameElement e f a b k x l y → elementIn b l y ≡ elementIn a k x
       element-same k x l y (inl w) = rw (eq-eqb k 0 (w .0), eq-eqb l 0 (w .1 .0)) refl
-      element-same k x l y (inr w) = rw (w .0, w .1 .0, ne, nf) (ap some (number-same x y (w .1 .1)))
+      element-same k x l y (inr w) = rw (w .0, w .1 .0, ne, nf) (ap some (number-same a b i x y (w .1 .1)))
 
       elements-same : {rs qs : Records} → Paired x y (SameElement e f a b) rs qs → elements b y qs ≡ elements a x rs
       unfolding elements
@@ -93,11 +94,11 @@ module _ (e f : ℕ) (a b : ValueType) (i : Integers a b) where
 
 -- ---- a property's record
 body-fits : {k l : Kind} {x y : List ℕ} → SameBody k l x y → HasKind k x → HasKind l y
-body-fits (scalar {a} {b} {x} {y} i w) h = number-fits 0 0 a b i x y w
+body-fits (scalar {a} {b} {x} {y} i w) h = number-fits a b i x y w
 body-fits (wider.array {e} {f} {a} {b} {x} {y} i w) h = (omega (arith, counts e f a b i x y w, h .0), elements-fit e f a b i x y w)
 
 body-same : {k l : Kind} {x y : List ℕ} → SameBody k l x y → OfElements k → OfElements l → bodyValue l y ≡ bodyValue k x
-body-same (scalar {a} {b} {x} {y} i w) p q = ap single (number-same 0 0 a b i x y w)
+body-same (scalar {a} {b} {x} {y} i w) p q = ap single (number-same a b i x y w)
 body-same (wider.array {e} {f} {a} {b} {x} {y} i w) p q = ap array (elements-same e f a b i x y (element-not-zero e p) (element-not-zero f q) w)
 
 module _ (k l kind : ℕ) (x : List ℕ) (other : ℕ) (y : List ℕ) where
