@@ -1,32 +1,21 @@
--- What follows from demand 3's agreement: the numbers 30 and 31 exactly; an instance whose values are all NULL; records of a subclass.
-use Prim.Native.Nat.{ℕ, suc, _≤_}
-use mathlib.Core.Path.{_≡_, refl, sym, ap, _∙_, subst, fun-ext}
-use mathlib.Core.List.{List, _++_}
+-- What follows from demand 3's agreement: the numbers 30 and 31 exactly; an instance whose values are all NULL.
+use Prim.Native.Nat.{ℕ, suc}
+use mathlib.Core.Path.{_≡_, refl, sym, ap, _∙_, subst}
+use mathlib.Core.List.{List}
 use mathlib.Core.Bool.{Bool, true, false}
 use native.Mathlib.Omega.{arith}
 use lib.ListN.{length}
-use Rattle.record.specs.Record.{Fit, records}
 use Rattle.table.specs.Properties.{kindsOf}
-use Rattle.table.specs.declared.lookup.Found.{Found}
-use Rattle.table.specs.declared.lookup.Found.the-variants as found
-use Rattle.instance.specs.Conforms.{Conforms}
 use Rattle.instance.specs.Fault.{conformity}
-use Rattle.instance.specs.Value.{Entry, environment}
 use Rattle.instance.specs.declared.conform.InstanceFault.the-variants.{TooLong, Nonconforming}
 use Rattle.instance.specs.declared.conform.Conformity.{Conformity}
 use Rattle.instance.specs.declared.conform.Conformity.the-variants.{Conforming, Fault}
-use Rattle.instance.proofs.Decides.{conforms-no-fault, IsLong, IsWrong, long-exactly, long-place, wrong-exactly}
+use Rattle.instance.proofs.Decides.{IsLong, IsWrong, long-exactly, long-place, wrong-exactly}
 use Rattle.instance.proofs.First.{FirstFault, first-fault}
-use Rattle.instance.proofs.Built.{nulls, nulls-conform, appended-conforms}
-use Rattle.instance.proofs.Environment.{environment-stays}
-use Rattle.syntax.specs.declared.path.Path as path
-use Rattle.operand.specs.Named.{named}
-use Rattle.judge.specs.Meaning.{meaning}
-use Rattle.judge.specs.Environment.{entryFound, entryNamed}
-use Rattle.filter.specs.Refusal.{numberOf, Call, refused, compares, callOf}
+use Rattle.instance.proofs.Built.{nulls, nulls-conform}
+use Rattle.filter.specs.Refusal.{numberOf, callOf}
 use Rattle.filter.specs.Check.{check}
-use Rattle.filter.specs.Meaning.{queryMeaning, querySteps}
-use Rattle.filter.specs.Evaluate.{meantIn, answer, answerIf, answerOf, evaluateCall, evaluate, steps}
+use Rattle.filter.specs.Evaluate.{answer, answerIf, evaluate, steps}
 use Rattle.filter.specs.Demand3.{Answered, instanceRefused, instanceTooLong, InstanceRefusals}
 use Rattle.filter.specs.declared.refusal.Checked.the-variants as checked
 use Rattle.filter.specs.declared.refusal.Answer.{Answer}
@@ -105,29 +94,3 @@ module _ (q t i : List ℕ) (accepted : check q t ≡ checked.Accepted) where
 -- ---- an instance whose values are all NULL conforms to every table free of 2 and 3, so that demand 3 says something of each table
 pub nulls-answered : (q t : List ℕ) → check q t ≡ checked.Accepted → Answered (evaluate q t (nulls (length (kindsOf t))))
 nulls-answered q t e = demand3 q t (nulls (length (kindsOf t))) (nulls-conform t (accepted-free q t e)) .answers .0 e
-
--- ---- records of a subclass change nothing
-entry-stays : (q t i more : List ℕ) → Conforms t i → (p : path.Path) → entryNamed q t (i ++ more) p ≡ entryNamed q t i p
-unfolding entryNamed
-entry-stays q t i more c p = go (named q t p)
-  where
-    go : (x : Found) → entryFound (environment t (i ++ more)) x ≡ entryFound (environment t i) x
-    go found.Absent = refl
-    go (found.Property n k) = environment-stays t i more c n
-
-module _ (q t i more : List ℕ) (c : Conforms t i) (d : Conforms t (i ++ more)) where
-  conformity-stays : conformity t (i ++ more) ≡ conformity t i
-  conformity-stays = conforms-no-fault t (i ++ more) d ∙ sym (conforms-no-fault t i c)
-
-  call-stays : (x : Call) → evaluateCall q t (i ++ more) x ≡ evaluateCall q t i x
-  call-stays (refused k p) = refl
-  call-stays (compares l) =
-      ap (λ (k : Conformity). answerOf k (queryMeaning (meantIn q t (i ++ more)) l) (querySteps (meantIn q t (i ++ more)) l)) conformity-stays
-      ∙ ap (λ (env : path.Path → Entry). answerOf (conformity t i) (queryMeaning (meaning q env) l) (querySteps (meaning q env) l)) (fun-ext (entry-stays q t i more c))
-
-pub subclass-same : (q t i more : List ℕ) → Conforms t i → Fit (records more 0) → length (i ++ more) ≤ 65535
-    → Conforms t (i ++ more) × (evaluate q t (i ++ more) ≡ evaluate q t i)
-unfolding evaluate
-subclass-same q t i more c f h =
-    let d = appended-conforms t i more c f h in
-    (d, call-stays q t i more c d (callOf q t))

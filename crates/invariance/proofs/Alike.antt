@@ -36,6 +36,10 @@ kinds-same Unknown = unknown
 kinds-same (Scalar t) = scalars refl
 kinds-same (Array e t) = arrays refl
 
+pub entries-same : (x : Entry) → EntriesAlike x x
+entries-same absent = neither
+entries-same (property k v) = properties (kinds-same (kindOf k))
+
 module _ (f : Family) (q : List ℕ) (place : ℕ) (i : Index) where
   right-kind : {k l : Kind} (v : Value) → KindsAlike k l → rightKind f q place i k v ≡ rightKind f q place i l v
   unfolding rightKind

@@ -5,3 +5,7 @@ pub mod WiderInstance
 pub mod Wider
 pub mod Stored
 pub mod Sample
+pub mod NamedProperties
+pub mod SameMeaning
+pub mod SameRecords
+pub mod SameMarks

@@ -1,1 +1,3 @@
 pub mod Wider
+pub mod NamedProperties
+pub mod SameRecords
