@@ -5,18 +5,21 @@ use mathlib.Core.Path.{_≡_, refl, sym, subst}
 use mathlib.Core.Logic.{inl}
 use native.Mathlib.Omega.{arith}
 use lib.ListN.{length, length-append}
-use Rattle.record.specs.Record.{Records, item, broken, ended, records, Fit}
+use Rattle.record.specs.declared.read.RecordAt.the-variants.{Whole}
+use Rattle.base.specs.Part.{part}
+use Rattle.record.specs.Record.{recordAt, Records, item, broken, ended, records, Fit}
 use Rattle.record.specs.Kind.{kindOf}
 use Rattle.record.specs.Write.{write}
 use Rattle.record.proofs.Records.{at-end, records-end}
-use Rattle.record.proofs.Shift.{shift, part-behind}
-use Rattle.record.proofs.Append.{join, part-stays, records-append, fit-shift, fit-join, Inside, inside}
-use Rattle.record.proofs.Written.{length-write, read-body, records-write}
+use Rattle.record.proofs.Shift.{shift, part-behind, records-first}
+use Rattle.record.proofs.Append.{join, part-stays, records-append, fit-shift, shift-fit, fit-join, Inside, inside}
+use Rattle.record.proofs.Written.{length-write, read-first, read-body}
 use Rattle.table.specs.Table.{FreeOfFaults}
 use Rattle.table.specs.Properties.{kindsOf}
 use Rattle.table.proofs.Good.{good-table, counted}
 use Rattle.instance.specs.Conforms.{Slot, HasKind, Lays, Conforms}
 
+-- records behind other bytes are laid out as they are alone
 lays-behind : (p s ks : List ℕ) (rs : Records) → Lays s ks rs → Lays (p ++ s) ks (shift (length p) rs)
 unfolding Lays shift
 lays-behind p s [] rs h = fit-shift (length p) rs h
@@ -25,13 +28,28 @@ lays-behind p s (k ∷ ks) (item place kind start len rest) h =
 lays-behind p s (k ∷ ks) (broken place) h = h
 lays-behind p s (k ∷ ks) ended h = h
 
--- one more property, written before the others
+lays-alone : (p s ks : List ℕ) (rs : Records) → Lays (p ++ s) ks (shift (length p) rs) → Lays s ks rs
+unfolding Lays shift
+lays-alone p s [] rs h = shift-fit (length p) rs h
+lays-alone p s (k ∷ ks) (item place kind start len rest) h =
+    (subst (λ (b : List ℕ). Slot k kind b (HasKind (kindOf k) b)) (part-behind p s start len) (h .0), lays-alone p s ks rest (h .1))
+lays-alone p s (k ∷ ks) (broken place) h = h
+lays-alone p s (k ∷ ks) ended h = h
+
+-- one more property, whose record stands before the others
+module _ {kind start len : ℕ} (w s : List ℕ) (e : recordAt (w ++ s) 0 ≡ Whole kind start len (length w)) (k : ℕ) (ks : List ℕ) where
+  pub lays-first : Slot k kind (part (w ++ s) start len) (HasKind (kindOf k) (part (w ++ s) start len)) → Lays s ks (records s 0) → Lays (w ++ s) (k ∷ ks) (records (w ++ s) 0)
+  unfolding Lays
+  lays-first slot h = rw (records-first w s e) (slot, lays-behind w s ks (records s 0) h)
+
+  pub first-lays : Lays (w ++ s) (k ∷ ks) (records (w ++ s) 0) → Slot k kind (part (w ++ s) start len) (HasKind (kindOf k) (part (w ++ s) start len)) × Lays s ks (records s 0)
+  unfolding Lays
+  first-lays h = let g = rw (records-first w s e) at h in (g .0, lays-alone w s ks (records s 0) (g .1))
+
 pub lays-write : (k kind : ℕ) (b s ks : List ℕ) → kind < 65536 → length b < 65536 → Slot k kind b (HasKind (kindOf k) b) → Lays s ks (records s 0)
     → Lays (write kind b ++ s) (k ∷ ks) (records (write kind b ++ s) 0)
-unfolding Lays
 lays-write k kind b s ks n l slot h =
-    rw (records-write kind b s n l)
-    (subst (λ (x : List ℕ). Slot k kind x (HasKind (kindOf k) x)) (sym (read-body kind b s n l)) slot, lays-behind (write kind b) s ks (records s 0) h)
+    lays-first (write kind b) s (read-first kind b s n l) k ks (subst (λ (x : List ℕ). Slot k kind x (HasKind (kindOf k) x)) (sym (read-body kind b s n l)) slot) h
 
 -- NULL for every property
 unfoldable pub nulls : ℕ → List ℕ

@@ -19,7 +19,7 @@ use Rattle.record.specs.declared.read.RecordAt.the-variants.{Whole, Broken, End
 use Rattle.record.proofs.Records.{whole-in, records-whole, records-broken, records-end}
 use Rattle.record.proofs.Shift.{moved, part-behind, record-behind}
 use Rattle.record.proofs.Append.{part-stays, record-stays}
-use Rattle.record.proofs.Written.{length-write, read-first, read-body}
+use Rattle.record.proofs.Written.{read-first, read-body}
 use Rattle.table.specs.Properties.{kindsOf, findProperty}
 use Rattle.table.specs.declared.lookup.Found.the-variants.{Property}
 use Rattle.table.proofs.Find.{found-at}
@@ -120,12 +120,13 @@ value-behind k p s at = rw (record-behind p s at) (go (recordAt s at))
     go Broken = refl
     go End = refl
 
-module _ (kind : ℕ) (b s : List ℕ) (fits : kind < 65536) (short : length b < 65536) where
-  pub start-write : (n : ℕ) → startOf (write kind b ++ s) (suc n) ≡ length (write kind b) + startOf s n
-  unfolding startOf
-  start-write zero = rw (read-first kind b s fits short) (omega (arith, length-write kind b))
-  start-write (suc n) = rw (start-write n) (next-behind (write kind b) s (startOf s n))
+-- the starts behind a first record
+pub start-behind : {kind start len : ℕ} (w s : List ℕ) → recordAt (w ++ s) 0 ≡ Whole kind start len (length w) → (n : ℕ) → startOf (w ++ s) (suc n) ≡ length w + startOf s n
+unfolding startOf
+start-behind w s e zero = rw e (omega arith)
+start-behind w s e (suc n) = rw (start-behind w s e n) (next-behind w s (startOf s n))
 
+module _ (kind : ℕ) (b s : List ℕ) (fits : kind < 65536) (short : length b < 65536) where
   -- the first property is what was written
   pub written-first : (k : ℕ) (ks : List ℕ) → environmentUnder (k ∷ ks) (write kind b ++ s) 0 ≡ property k (pick (eqb kind 0) null (bodyValue (kindOf k) b))
   unfolding environmentUnder startOf valueAt
@@ -134,7 +135,7 @@ module _ (kind : ℕ) (b s : List ℕ) (fits : kind < 65536) (short : length b <
   -- and the others are those of what follows
   pub written-next : (k : ℕ) (ks : List ℕ) (n : ℕ) → environmentUnder (k ∷ ks) (write kind b ++ s) (suc n) ≡ environmentUnder ks s n
   unfolding environmentUnder
-  written-next k ks n = rw (start-write n) (go (getElem? ks n))
+  written-next k ks n = rw (start-behind (write kind b) s (read-first kind b s fits short) n) (go (getElem? ks n))
     where
       go : (o : Option ℕ) → entryAt o (write kind b ++ s) (length (write kind b) + startOf s n) ≡ entryAt o s (startOf s n)
       go none = refl

@@ -9,3 +9,5 @@ pub mod NamedProperties
 pub mod SameMeaning
 pub mod SameRecords
 pub mod SameMarks
+pub mod Examples
+pub mod Replaced

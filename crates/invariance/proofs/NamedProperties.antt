@@ -20,7 +20,7 @@ use Rattle.syntax.specs.declared.right_side.RightSide.the-variants.{Literal, El
 use Rattle.syntax.specs.declared.comparison.Comparison.{Comparison}
 use Rattle.query_text.specs.Query.{Comparisons, only, more, Query, bad, good, query}
 use Rattle.operand.specs.Named.{spanned, named}
-use Rattle.invariance.specs.NamedProperties.{propertyOf, namedRight, namedBy, namedIn, without, distinct, namedText, namedProperties, Among}
+use Rattle.invariance.specs.NamedProperties.{propertyOf, namedRight, namedBy, namedIn, without, distinct, namedText, namedProperties, Among, Once}
 
 -- ---- membership
 pub among-left : (n : ℕ) (ns ms : List ℕ) → Among n ns → Among n (ns ++ ms)
@@ -75,11 +75,6 @@ unfolding distinct
 distinct-among k [] h = h
 distinct-among k (n ∷ ns) (inl e) = inl e
 distinct-among k (n ∷ ns) (inr h) = inr (distinct-among k ns (without-among n k (distinct ns) h .0))
-
--- none stands again behind itself
-unfoldable pub Once : List ℕ → Type 0
-Once [] = Unit
-Once (n ∷ ns) = (Among n ns → ⊥) × Once ns
 
 without-once : (n : ℕ) (ns : List ℕ) → Once ns → Once (without n ns)
 unfolding Once without

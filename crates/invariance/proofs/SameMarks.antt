@@ -1,7 +1,7 @@
 -- 02 Q-3 for marks: two runs whose instances, one by one, hold the same records for the properties that the query names get the same marks and the same totals.
 use Prim.Native.Nat.{ℕ, suc, _+_}
-use mathlib.Core.Path.{_≡_, refl, sym, ap, ap₂, _∙_}
-use mathlib.Core.List.{List, [], _∷_, _++_, map}
+use mathlib.Core.Path.{_≡_, refl, ap, ap₂, _∙_}
+use mathlib.Core.List.{List, _∷_, _++_, map}
 use mathlib.Core.Bool.{Bool}
 use native.Mathlib.Omega.{arith}
 use lib.ListN.{length, drop}
@@ -23,12 +23,11 @@ use Rattle.filter.specs.declared.refusal.Checked.the-variants as checked
 use Rattle.filter.proofs.QueryAgree.{truthCall}
 use Rattle.filter.proofs.Laws.{accepted-free, evaluates}
 use Rattle.run.specs.Run.{runReading, instancesOf}
-use Rattle.run.specs.Totals.{markOf, answersOf, marksOf, isIncluded, isExcluded, isFailed, count, totalsOf}
-use Rattle.run.specs.declared.reading.RunReading.{RunReading}
+use Rattle.run.specs.Totals.{markOf, isIncluded, isExcluded, isFailed, count, totalsOf}
 use Rattle.run.specs.declared.reading.RunReading.the-variants.{Divides}
 use Rattle.run.specs.declared.totals.Totals.{Totals}
 use Rattle.run.specs.declared.fault.RunFault.the-variants.{MarksTooFew}
-use Rattle.mark.specs.Mark.{refusedRun, markRead, markChecked, mark, marksBy, marksAfter}
+use Rattle.mark.specs.Mark.{refusedRun, markChecked, mark, marksBy, marksAfter}
 use Rattle.mark.specs.declared.refusal.Marked.{Marked}
 use Rattle.mark.specs.declared.refusal.Marked.the-variants as marked
 use Rattle.invariance.specs.NamedProperties.{namedProperties}

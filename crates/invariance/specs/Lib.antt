@@ -1,3 +1,4 @@
 pub mod Wider
 pub mod NamedProperties
 pub mod SameRecords
+pub mod Examples

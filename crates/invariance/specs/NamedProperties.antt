@@ -55,3 +55,8 @@ namedProperties q t = namedText q t (query q)
 abbrev pub Among : ℕ → List ℕ → Type 0
 Among n [] = ⊥
 Among n (m ∷ ms) = (n ≡ m) ⊎ Among n ms
+
+-- none stands in it a second time
+unfoldable pub Once : List ℕ → Type 0
+Once [] = Unit
+Once (n ∷ ns) = (Among n ns → ⊥) × Once ns

@@ -3,14 +3,14 @@ use Prim.Native.Nat.{ℕ, zero, suc, _+_, _-_, _≤_, _<_}
 use mathlib.Core.List.{List, _++_}
 use mathlib.Core.Path.{_≡_, refl, sym, ap, _∙_}
 use native.Mathlib.Omega.{arith}
-use lib.ListN.{length, take, drop, length-append, length-drop}
-use lib.Seq.{drop-append-le, take-append-le}
+use lib.ListN.{length, take, drop, length-append, length-drop, take-append-drop}
+use lib.Seq.{drop-append-le, take-append-le, length-take-le}
 use Rattle.base.specs.Part.{part}
 use Rattle.base.specs.LittleEndian.{unsigned}
 use Rattle.record.specs.declared.read.RecordAt.{RecordAt}
 use Rattle.record.specs.declared.read.RecordAt.the-variants.{Whole, Broken, End}
 use Rattle.record.specs.Record.{numberAt, recordAt, Records, item, broken, ended, records, Fit}
-use Rattle.record.proofs.Records.{at-whole, View, ends, breaks, stands, view, whole-in, records-whole, records-broken, records-end}
+use Rattle.record.proofs.Records.{at-whole, View, ends, breaks, stands, view, WholeIn, whole-in, records-whole, records-broken, records-end}
 use Rattle.record.proofs.Shift.{whole-same, shift, records-behind}
 
 -- records that come to the end, and then others
@@ -36,6 +36,28 @@ record-stays s t at kind start len next e = go (view s at)
         let a = number-stays s t at (omega arith) in
         let b = number-stays s t (at + 2) (omega arith) in
         at-whole (s ++ t) at (omega (arith, length-append s t)) ∙ whole-same b refl a (omega arith) ∙ sym f ∙ e
+
+-- and so do bytes that are taken away behind one
+pub record-within : (s : List ℕ) (at kind start len next : ℕ) → recordAt s at ≡ Whole kind start len next → recordAt (take next s) at ≡ Whole kind start len next
+record-within s at kind start len next e = go (view s at)
+  where
+    w : WholeIn (length s) at start len next
+    w = whole-in s at kind start len next e
+
+    kept : length (take next s) ≡ next
+    kept = length-take-le next s (w .within)
+
+    number : (p : ℕ) → p + 2 ≤ next → numberAt (take next s) p ≡ numberAt s p
+    number p h = sym (number-stays (take next s) (drop next s) p (omega (arith, kept))) ∙ ap (λ (x : List ℕ). numberAt x p) (take-append-drop next s)
+
+    go : View s at → recordAt (take next s) at ≡ Whole kind start len next
+    go (ends h f) = absurd (let z : _≡_ {A = ℕ} 0 1 = cc in omega arith)
+    go (breaks h g f) = absurd (let z : _≡_ {A = ℕ} 0 1 = cc in omega arith)
+    go (stands h f) =
+        let a = number at (omega (arith, w .begins, w .ends)) in
+        let b = number (at + 2) (omega (arith, w .begins, w .ends)) in
+        let l : numberAt s at ≡ len = cc in
+        at-whole (take next s) at (omega (arith, kept, w .begins, w .ends)) ∙ whole-same b refl a (omega arith) ∙ sym f ∙ e
 
 append-step : (s t : List ℕ) (at : ℕ) → at ≤ length s
     → ((next : ℕ) → at < next → next ≤ length s → Fit (records s next) → records (s ++ t) next ≡ join (records s next) (shift (length s) (records t 0)))
@@ -66,6 +88,12 @@ unfolding Fit shift
 fit-shift n (item at kind start len rest) h = fit-shift n rest h
 fit-shift n (broken at) h = h
 fit-shift n ended h = h
+
+pub shift-fit : (n : ℕ) (rs : Records) → Fit (shift n rs) → Fit rs
+unfolding Fit shift
+shift-fit n (item at kind start len rest) h = shift-fit n rest h
+shift-fit n (broken at) h = h
+shift-fit n ended h = h
 
 pub fit-join : (rs more : Records) → Fit rs → Fit more → Fit (join rs more)
 unfolding Fit join

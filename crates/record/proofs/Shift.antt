@@ -62,3 +62,8 @@ behind p s (suc f) at h = behind-step p s at (λ next a b. behind p s f next (om
 
 pub records-behind : (p s : List ℕ) → records (p ++ s) (length p) ≡ shift (length p) (records s 0)
 records-behind p s = ap (records (p ++ s)) (sym (add-zero (length p))) ∙ behind p s (suc (length s)) 0 (omega arith)
+
+-- a first record, and those behind it
+pub records-first : {kind start len : ℕ} (w s : List ℕ) → recordAt (w ++ s) 0 ≡ Whole kind start len (length w)
+    → records (w ++ s) 0 ≡ item 0 kind start len (shift (length w) (records s 0))
+records-first {kind} {start} {len} w s e = records-whole (w ++ s) 0 kind start len (length w) e ∙ ap (item 0 kind start len) (records-behind w s)

@@ -1,7 +1,7 @@
 -- What is written reads back: numbers at every width, and records alone and in front of other bytes.
 use Prim.Native.Nat.{ℕ, zero, suc, _+_, _-_, _/_, _^_, _<_}
 use mathlib.Core.List.{List, _++_}
-use mathlib.Core.Path.{_≡_, refl, sym, ap, _∙_}
+use mathlib.Core.Path.{_≡_, refl, ap, _∙_}
 use native.Mathlib.Omega.{arith}
 use native.Mathlib.Nat.{mod-add-div, mod-lt, pow-succ'}
 use lib.ListN.{length, length-append}
@@ -13,8 +13,8 @@ use Rattle.base.proofs.ByteLists.{Bytes}
 use Rattle.record.specs.declared.read.RecordAt.the-variants.{Whole}
 use Rattle.record.specs.Record.{recordAt, item, records}
 use Rattle.record.specs.Write.{littleEndian, stored, write}
-use Rattle.record.proofs.Records.{at-whole, records-whole}
-use Rattle.record.proofs.Shift.{whole-same, shift, records-behind}
+use Rattle.record.proofs.Records.{at-whole}
+use Rattle.record.proofs.Shift.{whole-same, shift, records-first}
 
 -- one law for every width
 pub unsigned-written : (width n : ℕ) → n < 256 ^ width → unsigned (littleEndian width n) ≡ n
@@ -51,18 +51,16 @@ unfolding write littleEndian
 length-write kind b = omega arith
 
 module _ (kind : ℕ) (b s : List ℕ) (k : kind < 65536) (l : length b < 65536) where
-  pub read-first : recordAt (write kind b ++ s) 0 ≡ Whole kind 4 (length b) (4 + length b)
+  pub read-first : recordAt (write kind b ++ s) 0 ≡ Whole kind 4 (length b) (length (write kind b))
   unfolding write littleEndian unsigned
   read-first =
       let e = unsigned-written 2 (length b) l in
       let f = unsigned-written 2 kind k in
-      at-whole (write kind b ++ s) 0 (omega (arith, length-append b s)) ∙ whole-same f refl e (omega arith)
+      at-whole (write kind b ++ s) 0 (omega (arith, length-append b s)) ∙ whole-same f refl e (omega (arith, length-write kind b))
 
   pub read-body : part (write kind b ++ s) 4 (length b) ≡ b
   unfolding write littleEndian
   read-body = take-append-seam b s
 
   pub records-write : records (write kind b ++ s) 0 ≡ item 0 kind 4 (length b) (shift (length (write kind b)) (records s 0))
-  records-write =
-      records-whole (write kind b ++ s) 0 kind 4 (length b) (length (write kind b)) (read-first ∙ whole-same refl refl refl (sym (length-write kind b)))
-      ∙ ap (item 0 kind 4 (length b)) (records-behind (write kind b) s)
+  records-write = records-first (write kind b) s read-first
