@@ -1,4 +1,4 @@
--- What check and evaluate say of 01's starred examples, mark of runs, and what the program prints, computed from their definitions.
+-- What check and evaluate say of 01's starred examples, mark of runs, what the program prints, and which properties queries name, computed from their definitions.
 use mathlib.Core.Path.{_≡_, refl}
 use lib.Ieee.{ofInt, ofBits, mul, div, neg, round, lt, eq}
 use Rattle.base.specs.Vectors.{results, expected}
@@ -76,6 +76,7 @@ use Rattle.filter.specs.Refusal as filter-refusal
 use Rattle.run.specs.Run as run-run
 use Rattle.run.specs.Totals as run-totals
 use Rattle.mark.specs.Mark as mark-mark
+use Rattle.invariance.specs.NamedProperties as invariance-named-properties
 use Rattle.text_writer.specs.Decimal as text-writer-decimal
 use Rattle.report.specs.Line as report-line
 use Rattle.report.specs.Text as report-text
@@ -83,9 +84,14 @@ use Rattle.report.specs.Output as report-output
 use Rattle.examples.specs.Starred.{outcomes, starred}
 use Rattle.examples.specs.Marks.{outcome, calls}
 use Rattle.examples.specs.Printed.{printed, outputs}
+use Rattle.examples.specs.Namings.{namedInSample, namings}
 
 -- all in one computation, so that what it unfolds is listed once
-every-one : (results outcomes starred ≡ expected starred) × (results outcome calls ≡ expected calls) × (results printed outputs ≡ expected outputs)
+every-one :
+    (results outcomes starred ≡ expected starred)
+    × (results outcome calls ≡ expected calls)
+    × (results printed outputs ≡ expected outputs)
+    × (results namedInSample namings ≡ expected namings)
 unfolding
     ofInt ofBits mul div neg round lt eq base-walk.walk
     base-digit.digitOf base-digit.allDigits base-digit.valueOf base-digit.sizeUnder
@@ -162,11 +168,12 @@ unfolding
     run-run.readingFrom run-run.runReading run-run.bodiesOf run-run.instancesOf
     run-totals.count
     mark-mark.mark mark-mark.marksAfter
+    invariance-named-properties.namedBy invariance-named-properties.namedIn invariance-named-properties.without invariance-named-properties.distinct invariance-named-properties.namedProperties
     text-writer-decimal.digitsWithin text-writer-decimal.decimal
     report-line.spaced report-line.line report-line.refusedLine report-line.spacedTotals report-line.totalLine report-line.answerLines
     report-text.terminated report-text.text
     report-output.outputLines
-every-one = (refl, refl, refl)
+every-one = (refl, refl, refl, refl)
 
 pub starred-right : results outcomes starred ≡ expected starred
 starred-right = every-one .0
@@ -176,3 +183,6 @@ calls-right = every-one .1
 
 pub outputs-right : results printed outputs ≡ expected outputs
 outputs-right = every-one .2
+
+pub namings-right : results namedInSample namings ≡ expected namings
+namings-right = every-one .3

@@ -1,3 +1,4 @@
 pub mod Starred
 pub mod Marks
 pub mod Printed
+pub mod Namings

@@ -5,9 +5,9 @@ pub mod WiderInstance
 pub mod Wider
 pub mod Stored
 pub mod Sample
-pub mod NamedProperties
+pub mod Among
 pub mod SameMeaning
+pub mod WithinTable
 pub mod SameRecords
 pub mod SameMarks
-pub mod Examples
 pub mod Replaced

@@ -22,7 +22,7 @@ use Rattle.judge.specs.Environment.{entryFound}
 use Rattle.filter.specs.Meaning.{truthOf, stepsOf, QueryMeaning, truthful, failure, unlessFailing, queryMeaning, querySteps}
 use Rattle.invariance.specs.NamedProperties.{Among, propertyOf, namedRight, namedBy, namedIn}
 use Rattle.invariance.proofs.Alike.{EntriesAlike, neither, entries-same, RightAlike, meaning-alike}
-use Rattle.invariance.proofs.NamedProperties.{among-left, among-right}
+use Rattle.invariance.proofs.Among.{among-left, among-right}
 
 -- ---- comparisons that each mean the same
 module _ (m o : Comparison → Meant) where

@@ -34,8 +34,9 @@ use Rattle.filter.proofs.Laws.{call-good}
 use Rattle.filter.proofs.Demand3.{demand3}
 use Rattle.invariance.specs.NamedProperties.{Among, namedIn, namedText, namedProperties}
 use Rattle.invariance.specs.SameRecords.{Held, nothing, held, heldIn, recordOf, SameRecords, SameValues, SameBut, SameVerdict, included, excluded}
-use Rattle.invariance.proofs.NamedProperties.{among-distinct, named-within}
+use Rattle.invariance.proofs.Among.{among-distinct}
 use Rattle.invariance.proofs.SameMeaning.{meaning-same, steps-same}
+use Rattle.invariance.proofs.WithinTable.{named-within}
 
 -- ---- what is read depends on the record alone
 valueHeld : (asked : ℕ) → Held → Value

@@ -1,4 +1,3 @@
 pub mod Wider
 pub mod NamedProperties
 pub mod SameRecords
-pub mod Examples

@@ -1,12 +1,12 @@
--- Examples of queries over the sample's table, with the properties that they name: On is 0, Temp 1, Dev 2, Name 3, Since 4, R 5.
+-- 02 Q-3: queries over the sample's table with the properties that they name. On is 0, Temp 1, Dev 2, Name 3, Since 4, R 5.
 use Prim.Native.Nat.{ℕ}
 use mathlib.Core.List.{List, [], _∷_}
 use Rattle.base.specs.Ascii.{bytes}
 use Rattle.table.specs.Sample.{sampleTable}
 use Rattle.invariance.specs.NamedProperties.{namedProperties}
 
-abbrev pub inSample : (query : List ℕ) → List ℕ
-inSample q = namedProperties q sampleTable
+abbrev pub namedInSample : (query : List ℕ) → List ℕ
+namedInSample q = namedProperties q sampleTable
 
 abbrev pub namings : List (List ℕ × List ℕ)
 namings =

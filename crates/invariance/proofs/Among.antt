@@ -1,0 +1,77 @@
+-- Numbers in a list, and the list with each of them once.
+use Prim.Native.Nat.{ℕ}
+use mathlib.Core.Path.{_≡_, refl, sym, _∙_}
+use mathlib.Core.List.{List, [], _∷_, _++_}
+use mathlib.Core.Bool.{Bool, true, false}
+use mathlib.Core.Logic.{inl, inr}
+use lib.Dec.{eqb}
+use borrow.Author.Tests.{eqb-true, eqb-false, ne-eqb}
+use Rattle.base.specs.Pick.{pick}
+use Rattle.invariance.specs.NamedProperties.{without, distinct, Among, Once}
+
+pub among-left : (n : ℕ) (ns ms : List ℕ) → Among n ns → Among n (ns ++ ms)
+among-left n (k ∷ ns) ms (inl e) = inl e
+among-left n (k ∷ ns) ms (inr h) = inr (among-left n ns ms h)
+among-left n [] ms h = absurd h
+
+pub among-right : (n : ℕ) (ns ms : List ℕ) → Among n ms → Among n (ns ++ ms)
+among-right n [] ms h = h
+among-right n (k ∷ ns) ms h = inr (among-right n ns ms h)
+
+-- what holds of all in two lists holds of all in both together
+pub all-joined : (P : ℕ → Type 0) (ns ms : List ℕ) → ((n : ℕ) → Among n ns → P n) → ((n : ℕ) → Among n ms → P n) → (n : ℕ) → Among n (ns ++ ms) → P n
+all-joined P [] ms f g n h = g n h
+all-joined P (k ∷ ns) ms f g n (inl e) = f n (inl e)
+all-joined P (k ∷ ns) ms f g n (inr h) = all-joined P ns ms (λ m w. f m (inr w)) g n h
+
+-- ---- each once
+without-step : (n k m : ℕ) (ns : List ℕ) → (Among k (without n ns) → Among k ns × (k ≡ n → ⊥)) → (b : Bool) → eqb n m ≡ b
+    → Among k (pick b (without n ns) (m ∷ without n ns)) → Among k (m ∷ ns) × (k ≡ n → ⊥)
+without-step n k m ns again true e h = (inr (again h .0), again h .1)
+without-step n k m ns again false e (inl d) = (inl d, λ f. eqb-false n m e (sym f ∙ d))
+without-step n k m ns again false e (inr h) = (inr (again h .0), again h .1)
+
+without-among : (n k : ℕ) (ns : List ℕ) → Among k (without n ns) → Among k ns × (k ≡ n → ⊥)
+unfolding without
+without-among n k [] h = (h, λ e. h)
+without-among n k (m ∷ ns) h = without-step n k m ns (without-among n k ns) (eqb n m) refl h
+
+among-without : (n k : ℕ) (ns : List ℕ) → Among k ns → (k ≡ n → ⊥) → Among k (without n ns)
+unfolding without
+among-without n k [] h d = h
+among-without n k (m ∷ ns) (inl e) d = rw (ne-eqb n m (λ f. d (e ∙ sym f))) (inl e)
+among-without n k (m ∷ ns) (inr h) d = go (eqb n m) (among-without n k ns h d)
+  where
+    go : (b : Bool) → Among k (without n ns) → Among k (pick b (without n ns) (m ∷ without n ns))
+    go true w = w
+    go false w = inr w
+
+pub among-distinct : (k : ℕ) (ns : List ℕ) → Among k ns → Among k (distinct ns)
+unfolding distinct
+among-distinct k [] h = h
+among-distinct k (n ∷ ns) (inl e) = inl e
+among-distinct k (n ∷ ns) (inr h) = go (eqb k n) refl (among-distinct k ns h)
+  where
+    go : (b : Bool) → eqb k n ≡ b → Among k (distinct ns) → Among k (n ∷ without n (distinct ns))
+    go true e w = inl (eqb-true k n e)
+    go false e w = inr (among-without n k (distinct ns) w (eqb-false k n e))
+
+pub distinct-among : (k : ℕ) (ns : List ℕ) → Among k (distinct ns) → Among k ns
+unfolding distinct
+distinct-among k [] h = h
+distinct-among k (n ∷ ns) (inl e) = inl e
+distinct-among k (n ∷ ns) (inr h) = inr (distinct-among k ns (without-among n k (distinct ns) h .0))
+
+without-once : (n : ℕ) (ns : List ℕ) → Once ns → Once (without n ns)
+unfolding Once without
+without-once n [] h = h
+without-once n (m ∷ ns) h = go (eqb n m) (without-once n ns (h .1))
+  where
+    go : (b : Bool) → Once (without n ns) → Once (pick b (without n ns) (m ∷ without n ns))
+    go true w = w
+    go false w = (λ k. h .0 (without-among n m ns k .0), w)
+
+pub distinct-once : (ns : List ℕ) → Once (distinct ns)
+unfolding Once distinct
+distinct-once [] = tt
+distinct-once (n ∷ ns) = (λ h. without-among n n (distinct ns) h .1 refl, without-once n (distinct ns) (distinct-once ns))
