@@ -58,6 +58,23 @@ pub struct Comparison {
 
 pub type Query = Vec<(Comparison, Join)>;
 
+#[derive(Clone, Copy, Debug, PartialEq, Eq, PartialOrd, Ord)]
+pub enum Side {
+    Left,
+    Right,
+}
+
+impl Comparison {
+    /// The paths with their sides, the left one first.
+    pub fn paths(&self) -> Vec<(Side, &Path)> {
+        let left = (Side::Left, &self.left);
+        match &self.right {
+            Right::Property(path) => vec![left, (Side::Right, path)],
+            Right::Literal(_) | Right::Elements(_) | Right::Pattern(_) => vec![left],
+        }
+    }
+}
+
 struct Parser<'a> {
     query: &'a [u8],
     tokens: Vec<Token>,

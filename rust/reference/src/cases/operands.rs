@@ -6,13 +6,7 @@ use std::fmt;
 use crate::check::find;
 use crate::kind::{ARRAY, TYPES};
 use crate::record::Table;
-use crate::syntax::{Comparison, Right};
-
-#[derive(Clone, Copy, Debug, PartialEq, Eq, PartialOrd, Ord)]
-enum Side {
-    Left,
-    Right,
-}
+use crate::syntax::{Comparison, Side};
 
 #[derive(Clone, Copy, Debug, Default)]
 struct Count {
@@ -27,11 +21,7 @@ pub struct Operands(BTreeMap<(Side, u16), Count>);
 impl Operands {
     /// The properties of a comparison, and the verdict if it is alone in its query.
     pub fn add(&mut self, query: &[u8], table: &Table, c: &Comparison, included: Option<bool>) {
-        let right = match &c.right {
-            Right::Property(path) => Some((Side::Right, path)),
-            _ => None,
-        };
-        for (side, path) in [Some((Side::Left, &c.left)), right].into_iter().flatten() {
+        for (side, path) in c.paths() {
             let (_, kind) = find(query, table, path).unwrap();
             let count = self.0.entry((side, kind)).or_default();
             count.comparisons += 1;
