@@ -9,6 +9,7 @@ pub mod kinds;
 pub mod limits;
 pub mod literals;
 pub mod meaning;
+pub mod named;
 pub mod patterns;
 pub mod precedence;
 pub mod programs;
