@@ -84,6 +84,19 @@ fn well_typed(r: &mut Random) -> Case {
     source.case("well-typed", query, intended)
 }
 
+/// A query that the check accepts; now and then one with any property beside any literal, or a damaged one.
+fn mostly_accepted(r: &mut Random, source: &Source) -> Vec<u8> {
+    let query = comparison::query(r, source);
+    match r.below(12) {
+        0 if !source.table.properties.is_empty() => {
+            let tokens = loose::comparison(r, source);
+            tokens::write(r, &tokens).0
+        }
+        1 => queries::damaged(r, &String::from_utf8(query).unwrap()),
+        _ => query,
+    }
+}
+
 /// One comparison among others fails for a known cause, at a known place.
 fn wrongly_typed(r: &mut Random) -> Case {
     let source = Source::of_all_types(r);

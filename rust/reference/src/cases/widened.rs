@@ -2,10 +2,9 @@
 //! keeps its answer.
 
 use super::source::Source;
-use super::{comparison, loose, table, tokens, value};
+use super::{mostly_accepted, table, value};
 use crate::integer;
 use crate::kind::{is_array, type_of, ARRAY, INTEGERS, NULL};
-use crate::queries;
 use crate::random::Random;
 use crate::record::{read, write, Record, LENGTH_OF_INSTANCE};
 
@@ -52,23 +51,10 @@ pub fn pair(r: &mut Random, store: Store) -> Pair {
     loop {
         let table = table::of_integers(r);
         let source = Source::new(r, table);
-        let query = query(r, &source);
+        let query = mostly_accepted(r, &source);
         if let Some(pair) = changed(r, &source, query, store) {
             return pair;
         }
-    }
-}
-
-/// Most often one that the check accepts; else one with any literal in any place, or damaged.
-fn query(r: &mut Random, source: &Source) -> Vec<u8> {
-    let query = comparison::query(r, source);
-    match r.below(12) {
-        0 => {
-            let tokens = loose::comparison(r, source);
-            tokens::write(r, &tokens).0
-        }
-        1 => queries::damaged(r, &String::from_utf8(query).unwrap()),
-        _ => query,
     }
 }
 
