@@ -6,6 +6,7 @@ mod datetime;
 mod limit;
 mod literal;
 mod loose;
+pub mod named;
 mod operands;
 mod pattern;
 pub mod run;

@@ -92,6 +92,12 @@ pub fn of_all_types(r: &mut Random) -> Table {
     filled(r, &kinds, more)
 }
 
+/// A table of a few properties of any kinds.
+pub fn small(r: &mut Random) -> Table {
+    let n = 1 + r.below(5);
+    filled(r, &[], n)
+}
+
 /// A table of a few properties, most of them integers and arrays of these.
 pub fn of_integers(r: &mut Random) -> Table {
     let n = 1 + r.below(5);

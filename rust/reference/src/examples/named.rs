@@ -1,6 +1,6 @@
 //! Queries with the properties that they name, by their numbers in the table (02, Q-3).
 
-use super::setting::{sample, types};
+use super::setting::{sample, truth, types};
 use super::Setting;
 use crate::kind::BOOLEAN;
 use crate::record::write;
@@ -8,6 +8,7 @@ use crate::record::write;
 pub struct NamedExample {
     pub query: Vec<u8>,
     pub table: Vec<u8>,
+    pub instance: Vec<u8>,
     /// In rising order.
     pub named: Vec<usize>,
 }
@@ -16,6 +17,7 @@ fn over<Q: AsRef<[u8]>>(setting: &Setting, queries: &[(Q, &[usize])]) -> Vec<Nam
     let example = |(query, named): &(Q, &[usize])| NamedExample {
         query: query.as_ref().to_vec(),
         table: setting.table(),
+        instance: setting.instance(),
         named: named.to_vec(),
     };
     queries.iter().map(example).collect()
@@ -79,7 +81,7 @@ fn under_other_names() -> Vec<NamedExample> {
             ("_X1 = T", &[8, 23]),
         ],
     );
-    let own = Setting::new("P", &[("A", BOOLEAN, vec![]), ("P", BOOLEAN, vec![])]);
+    let own = Setting::new("P", &[("A", BOOLEAN, truth(true)), ("P", BOOLEAN, truth(false))]);
     out.extend(over(&own, &[("P = TRUE", &[1][..]), ("P.P = TRUE", &[1]), ("P.A = TRUE", &[0]), ("A = p", &[0, 1])]));
     out
 }
@@ -119,7 +121,7 @@ pub fn of_refused_texts_and_tables() -> Vec<NamedExample> {
     out.extend(over(&sample(), &[(b"On = TRUE OR Name = '\xff'", none)]));
     let twice = [sample().table(), write(BOOLEAN, b"ON")].concat();
     for table in [vec![], write(BOOLEAN, b"On"), twice, [sample().table(), vec![0]].concat()] {
-        out.push(NamedExample { query: b"On = TRUE".to_vec(), table, named: vec![] });
+        out.push(NamedExample { query: b"On = TRUE".to_vec(), table, instance: sample().instance(), named: vec![] });
     }
     out
 }
