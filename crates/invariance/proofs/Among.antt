@@ -46,6 +46,20 @@ among-without n k (m ∷ ns) (inr h) d = go (eqb n m) (among-without n k ns h d)
     go true w = w
     go false w = inr w
 
+without-once : (n : ℕ) (ns : List ℕ) → Once ns → Once (without n ns)
+unfolding Once without
+without-once n [] h = h
+without-once n (m ∷ ns) h = go (eqb n m) (without-once n ns (h .1))
+  where
+    go : (b : Bool) → Once (without n ns) → Once (pick b (without n ns) (m ∷ without n ns))
+    go true w = w
+    go false w = (λ k. h .0 (without-among n m ns k .0), w)
+
+pub distinct-once : (ns : List ℕ) → Once (distinct ns)
+unfolding Once distinct
+distinct-once [] = tt
+distinct-once (n ∷ ns) = (λ h. without-among n n (distinct ns) h .1 refl, without-once n (distinct ns) (distinct-once ns))
+
 pub among-distinct : (k : ℕ) (ns : List ℕ) → Among k ns → Among k (distinct ns)
 unfolding distinct
 among-distinct k [] h = h
@@ -61,17 +75,3 @@ unfolding distinct
 distinct-among k [] h = h
 distinct-among k (n ∷ ns) (inl e) = inl e
 distinct-among k (n ∷ ns) (inr h) = inr (distinct-among k ns (without-among n k (distinct ns) h .0))
-
-without-once : (n : ℕ) (ns : List ℕ) → Once ns → Once (without n ns)
-unfolding Once without
-without-once n [] h = h
-without-once n (m ∷ ns) h = go (eqb n m) (without-once n ns (h .1))
-  where
-    go : (b : Bool) → Once (without n ns) → Once (pick b (without n ns) (m ∷ without n ns))
-    go true w = w
-    go false w = (λ k. h .0 (without-among n m ns k .0), w)
-
-pub distinct-once : (ns : List ℕ) → Once (distinct ns)
-unfolding Once distinct
-distinct-once [] = tt
-distinct-once (n ∷ ns) = (λ h. without-among n n (distinct ns) h .1 refl, without-once n (distinct ns) (distinct-once ns))

@@ -81,14 +81,14 @@ module _ (q t : List ℕ) (env other : ℕ → Entry) where
   comparison-agrees c h =
       let left = propertyOf (named q t (c .left .path)) in
       meaning-alike q (under env) (under other) c
-      (right-agrees (c .right) (λ n w. h n (among-right n left (namedRight q t (c .right)) w)))
-      (entry-agrees (named q t (c .left .path)) (λ n w. h n (among-left n left (namedRight q t (c .right)) w)))
+      (right-agrees (c .right) (λ n w. h n (among-right n left _ w)))
+      (entry-agrees (named q t (c .left .path)) (λ n w. h n (among-left n left _ w)))
 
   each-agrees : (l : Comparisons) → Agree (namedIn q t l) → Each (meaning q (under env)) (meaning q (under other)) l
   unfolding namedIn Each
   each-agrees (only c) h = comparison-agrees c h
   each-agrees (more c j r) h =
-      (comparison-agrees c (λ n w. h n (among-left n (namedBy q t c) (namedIn q t r) w)), each-agrees r (λ n w. h n (among-right n (namedBy q t c) (namedIn q t r) w)))
+      (comparison-agrees c (λ n w. h n (among-left n (namedBy q t c) _ w)), each-agrees r (λ n w. h n (among-right n (namedBy q t c) _ w)))
 
   module _ (l : Comparisons) (e : Joined l) (h : Agree (namedIn q t l)) where
     pub meaning-same : queryMeaning (meaning q (under env)) l ≡ queryMeaning (meaning q (under other)) l
