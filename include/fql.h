@@ -123,7 +123,9 @@ typedef struct fql_part {
    place. */
 fql_refusal fql_check(const uint8_t *query, size_t query_length, const uint8_t *table, size_t table_length);
 
-/* Whether the query includes an instance, and in how many steps. */
+/* Whether the query includes an instance, and in how many steps. Only the properties that the query names count, in
+   any of its comparisons: instances that conform to the table and hold the same records for these have the same
+   answer. */
 fql_answer fql_evaluate(const uint8_t *query, size_t query_length, const uint8_t *table, size_t table_length,
                         const uint8_t *instance, size_t instance_length);
 

@@ -73,7 +73,8 @@ pub fn check(query: &[u8], table: &[u8]) -> Result<(), Refusal> {
     Refusal::returned(found.number, found.place).map_or(Ok(()), Err)
 }
 
-/// Whether the query includes the instance, and in how many steps.
+/// Whether the query includes the instance, and in how many steps. Only the properties that the query names count, in
+/// any of its comparisons: instances that conform to the table and hold the same records for these have the same answer.
 ///
 /// ```
 /// use fql::{record, types, Answer, Cause, Refusal, Verdict};

@@ -3,6 +3,7 @@
 use fql::{Cause, Refusal};
 
 use crate::faulty::{in_instance, in_run, in_table, LONGEST_RUN};
+use crate::named::named;
 use crate::place::place;
 
 /// What is said, and whether query, table and run are accepted.
@@ -52,11 +53,11 @@ fn in_query(query: &[u8], offset: usize) -> String {
     out
 }
 
-/// The totals, and for each instance that fails its record at fault.
+/// The properties that count, the totals, and for each instance that fails its record at fault.
 fn accepted(query: &[u8], table: &[u8], run: &[u8]) -> String {
+    let mut out = format!("accepted\nnames {}\n", named(query, table).join(", "));
     let totals = fql::mark(query, table, run, &mut marks(run)).expect("a run without refusal");
-    let mut out =
-        format!("accepted\n{} included, {} excluded, {} failed\n", totals.included, totals.excluded, totals.failed);
+    out += &format!("{} included, {} excluded, {} failed\n", totals.included, totals.excluded, totals.failed);
     for (number, instance) in (1..).zip(fql::record::read(run).0) {
         if let Err(refusal) = fql::evaluate(query, table, instance.body) {
             let details = in_instance(table, instance.body, refusal.place as usize);

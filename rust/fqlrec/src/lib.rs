@@ -35,6 +35,7 @@ mod faulty;
 mod hex;
 mod integer;
 mod line;
+mod named;
 mod place;
 mod problem;
 mod quoted;

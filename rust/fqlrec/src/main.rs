@@ -10,7 +10,8 @@ use fqlrec::{explain, read, show, Files};
 const USAGE: &str = "\
 usage: fqlrec write FILE FOLDER    write FOLDER/table and FOLDER/run from the text in FILE
        fqlrec show FOLDER          print FOLDER/table and FOLDER/run as text
-       fqlrec explain FOLDER       tell whether FOLDER/query is accepted, or where and why not
+       fqlrec explain FOLDER       tell whether FOLDER/query is accepted and which properties it names, or where
+                                   and why not
 
 The exit status is 0, 1 if FOLDER/query, table or run is refused, 2 if a file or an argument is wrong.
 ";

@@ -55,7 +55,8 @@ fn explain() {
     fs::write(folder.join("query"), "On = TRUE").unwrap();
     let (status, out, error) = run(&folder, &["explain", "."]);
     assert_eq!((status, error.as_str()), (0, ""));
-    assert!(out.starts_with("accepted\n1 included, 0 excluded, 1 failed\ninstance 2, at byte 9 of the run: "), "{out}");
+    let expected = "accepted\nnames On\n1 included, 0 excluded, 1 failed\ninstance 2, at byte 9 of the run: ";
+    assert!(out.starts_with(expected), "{out}");
 
     fs::write(folder.join("query"), "On = TRUE\nOR Of = TRUE").unwrap();
     let (status, out, error) = run(&folder, &["explain", "."]);

@@ -4,10 +4,11 @@ use fql::record::INSTANCE;
 use fql::types::{BOOLEAN, STRING};
 use fqlrec::{explain, read, Files};
 use reference::cases::run::{random, RunCase};
-use reference::examples::programs;
+use reference::examples::{named, programs};
+use reference::named_properties;
 use reference::program::output;
 use reference::random::for_each_seed;
-use reference::record::write;
+use reference::record::{write, Table};
 
 const TEXT: &str = "\
 class P
@@ -35,7 +36,22 @@ fn an_accepted_query() {
     let Files { table, run } = files();
     let explanation = explain(b"On = TRUE", &table, &run);
     assert!(explanation.accepted);
-    assert_eq!(explanation.text, "accepted\n1 included, 0 excluded, 0 failed\n");
+    assert_eq!(explanation.text, "accepted\nnames On\n1 included, 0 excluded, 0 failed\n");
+}
+
+/// The names of properties, by their numbers.
+fn names<'a>(table: &[u8], numbers: impl IntoIterator<Item = &'a usize>) -> String {
+    let properties = Table::read(table).unwrap().properties;
+    let name = |&n: &usize| String::from_utf8(properties[n].name.clone()).unwrap();
+    numbers.into_iter().map(name).collect::<Vec<_>>().join(", ")
+}
+
+#[test]
+fn the_properties_that_count() {
+    for e in named::of_accepted_queries() {
+        let told = explain(&e.query, &e.table, &[]).text;
+        assert_eq!(told, format!("accepted\nnames {}\n0 included, 0 excluded, 0 failed\n", names(&e.table, &e.named)));
+    }
 }
 
 #[test]
@@ -149,6 +165,7 @@ fn instances_that_fail() {
         format!(
             "\
 accepted
+names On
 1 included, 0 excluded, 3 failed
 instance 2, at byte 30 of the run: refused 31 at 5: {words}
     asked for: Temp  sint64
@@ -173,13 +190,13 @@ fn a_subclass_record_that_is_cut() {
     assert!(told.contains("    asked for: a whole record\n    found:     bytes 0500 ("), "{told}");
 }
 
-/// Number and place are the program's.
+/// Number and place are the program's, and the names those that the second evaluator finds.
 fn hold_to_program(files: &reference::program::Files) {
     let explanation = explain(&files.query, &files.table, &files.run);
     let lines = output(files);
     let expected = match lines.strip_prefix("refused ") {
         Some(rest) => format!("refused {}: ", rest.trim_end().replace(' ', " at ")),
-        None => "accepted\n".to_owned(),
+        None => format!("accepted\nnames {}\n", names(&files.table, &named_properties(&files.query, &files.table))),
     };
     assert_eq!(explanation.accepted, !lines.starts_with("refused"));
     assert!(explanation.text.starts_with(&expected), "{expected}\n{}", explanation.text);
