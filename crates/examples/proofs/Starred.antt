@@ -84,14 +84,14 @@ use Rattle.report.specs.Output as report-output
 use Rattle.examples.specs.Starred.{outcomes, starred}
 use Rattle.examples.specs.Marks.{outcome, calls}
 use Rattle.examples.specs.Printed.{printed, outputs}
-use Rattle.examples.specs.Namings.{namedInSample, namings}
+use Rattle.examples.specs.Namings.{named, namings}
 
 -- all in one computation, so that what it unfolds is listed once
 every-one :
     (results outcomes starred ≡ expected starred)
     × (results outcome calls ≡ expected calls)
     × (results printed outputs ≡ expected outputs)
-    × (results namedInSample namings ≡ expected namings)
+    × (results named namings ≡ expected namings)
 unfolding
     ofInt ofBits mul div neg round lt eq base-walk.walk
     base-digit.digitOf base-digit.allDigits base-digit.valueOf base-digit.sizeUnder
@@ -184,5 +184,5 @@ calls-right = every-one .1
 pub outputs-right : results printed outputs ≡ expected outputs
 outputs-right = every-one .2
 
-pub namings-right : results namedInSample namings ≡ expected namings
+pub namings-right : results named namings ≡ expected namings
 namings-right = every-one .3

@@ -2,7 +2,7 @@
 use Prim.Native.Nat.{ℕ, zero, suc, _+_, _*_, _≤_, _<_}
 use mathlib.Core.List.{List, [], _∷_, _++_}
 use mathlib.Core.Path.{_≡_, refl, sym, subst}
-use mathlib.Core.Logic.{inl}
+use mathlib.Core.Logic.{_↔_, inl}
 use native.Mathlib.Omega.{arith}
 use lib.ListN.{length, length-append}
 use Rattle.record.specs.declared.read.RecordAt.the-variants.{Whole}
@@ -12,7 +12,7 @@ use Rattle.record.specs.Kind.{kindOf}
 use Rattle.record.specs.Write.{write}
 use Rattle.record.proofs.Records.{at-end, records-end}
 use Rattle.record.proofs.Shift.{shift, part-behind, records-first}
-use Rattle.record.proofs.Append.{join, part-stays, records-append, fit-shift, shift-fit, fit-join, Inside, inside}
+use Rattle.record.proofs.Append.{join, part-stays, records-append, fit-shift, fit-join, Inside, inside}
 use Rattle.record.proofs.Written.{length-write, read-first, read-body}
 use Rattle.table.specs.Table.{FreeOfFaults}
 use Rattle.table.specs.Properties.{kindsOf}
@@ -20,31 +20,24 @@ use Rattle.table.proofs.Good.{good-table, counted}
 use Rattle.instance.specs.Conforms.{Slot, HasKind, Lays, Conforms}
 
 -- records behind other bytes are laid out as they are alone
-lays-behind : (p s ks : List ℕ) (rs : Records) → Lays s ks rs → Lays (p ++ s) ks (shift (length p) rs)
+lays-behind : (p s ks : List ℕ) (rs : Records) → Lays (p ++ s) ks (shift (length p) rs) ↔ Lays s ks rs
 unfolding Lays shift
-lays-behind p s [] rs h = fit-shift (length p) rs h
-lays-behind p s (k ∷ ks) (item place kind start len rest) h =
-    (subst (λ (b : List ℕ). Slot k kind b (HasKind (kindOf k) b)) (sym (part-behind p s start len)) (h .0), lays-behind p s ks rest (h .1))
-lays-behind p s (k ∷ ks) (broken place) h = h
-lays-behind p s (k ∷ ks) ended h = h
-
-lays-alone : (p s ks : List ℕ) (rs : Records) → Lays (p ++ s) ks (shift (length p) rs) → Lays s ks rs
-unfolding Lays shift
-lays-alone p s [] rs h = shift-fit (length p) rs h
-lays-alone p s (k ∷ ks) (item place kind start len rest) h =
-    (subst (λ (b : List ℕ). Slot k kind b (HasKind (kindOf k) b)) (part-behind p s start len) (h .0), lays-alone p s ks rest (h .1))
-lays-alone p s (k ∷ ks) (broken place) h = h
-lays-alone p s (k ∷ ks) ended h = h
+lays-behind p s [] rs = fit-shift (length p) rs
+lays-behind p s (k ∷ ks) (item place kind start len rest) =
+    let again = lays-behind p s ks rest in
+    rw (part-behind p s start len) (λ h. (h .0, again .0 (h .1)), λ h. (h .0, again .1 (h .1)))
+lays-behind p s (k ∷ ks) (broken place) = (λ h. h, λ h. h)
+lays-behind p s (k ∷ ks) ended = (λ h. h, λ h. h)
 
 -- one more property, whose record stands before the others
 module _ {kind start len : ℕ} (w s : List ℕ) (e : recordAt (w ++ s) 0 ≡ Whole kind start len (length w)) (k : ℕ) (ks : List ℕ) where
   pub lays-first : Slot k kind (part (w ++ s) start len) (HasKind (kindOf k) (part (w ++ s) start len)) → Lays s ks (records s 0) → Lays (w ++ s) (k ∷ ks) (records (w ++ s) 0)
   unfolding Lays
-  lays-first slot h = rw (records-first w s e) (slot, lays-behind w s ks (records s 0) h)
+  lays-first slot h = rw (records-first w s e) (slot, lays-behind w s ks (records s 0) .1 h)
 
   pub first-lays : Lays (w ++ s) (k ∷ ks) (records (w ++ s) 0) → Slot k kind (part (w ++ s) start len) (HasKind (kindOf k) (part (w ++ s) start len)) × Lays s ks (records s 0)
   unfolding Lays
-  first-lays h = let g = rw (records-first w s e) at h in (g .0, lays-alone w s ks (records s 0) (g .1))
+  first-lays h = let g = rw (records-first w s e) at h in (g .0, lays-behind w s ks (records s 0) .0 (g .1))
 
 pub lays-write : (k kind : ℕ) (b s ks : List ℕ) → kind < 65536 → length b < 65536 → Slot k kind b (HasKind (kindOf k) b) → Lays s ks (records s 0)
     → Lays (write kind b ++ s) (k ∷ ks) (records (write kind b ++ s) 0)
@@ -97,5 +90,5 @@ appended-conforms t i more c g l =
       short = l;
       lays =
           rw (records-append i more (lays-fit i (kindsOf t) (records i 0) (c .lays)))
-          (lays-join i more (kindsOf t) (records i 0) (shift (length i) (records more 0)) (inside i 0) (c .lays) (fit-shift (length i) (records more 0) g));
+          (lays-join i more (kindsOf t) (records i 0) (shift (length i) (records more 0)) (inside i 0) (c .lays) (fit-shift (length i) (records more 0) .1 g));
     }

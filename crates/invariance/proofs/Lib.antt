@@ -5,7 +5,7 @@ pub mod WiderInstance
 pub mod Wider
 pub mod Stored
 pub mod Sample
-pub mod Among
+pub mod Members
 pub mod SameMeaning
 pub mod WithinTable
 pub mod SameRecords

@@ -1,6 +1,6 @@
 -- 02 Q-3 "Operators edit unrelated settings and ask whether a filter could react": another record for a property that the query doesn't name. Whatever value of its kind it
 -- holds, the instance still conforms, within its 65,535 bytes, and has the same answer.
-use Prim.Native.Nat.{ℕ, zero, suc, _+_, _≤_, _<_}
+use Prim.Native.Nat.{ℕ, zero, suc, _+_, _<_}
 use mathlib.Core.Path.{_≡_, refl, sym, ap, ap₂, _∙_, subst}
 use mathlib.Core.List.{List, [], _∷_, _++_, append-assoc}
 use mathlib.Core.Bool.{Bool, true, false}
@@ -28,18 +28,18 @@ use Rattle.instance.specs.Start.{startOf}
 use Rattle.instance.proofs.Built.{lays-first, first-lays, lays-write}
 use Rattle.instance.proofs.Environment.{start-behind}
 use Rattle.filter.specs.Evaluate.{evaluate}
-use Rattle.invariance.specs.NamedProperties.{Among, namedProperties}
-use Rattle.invariance.specs.SameRecords.{Held, held, heldIn, recordOf, SameBut, replaced}
+use Rattle.invariance.specs.NamedProperties.{Member, namedProperties}
+use Rattle.invariance.specs.SameRecords.{Held, held, heldIn, heldFor, SameBut, replaced, Replaces}
 use Rattle.invariance.proofs.SameRecords.{unnamed-changed}
 
 -- ---- a first record and what is behind it
 module _ {kind start len : ℕ} (w s : List ℕ) (e : recordAt (w ++ s) 0 ≡ Whole kind start len (length w)) where
-  first-held : recordOf (w ++ s) 0 ≡ held kind (part (w ++ s) start len)
-  unfolding recordOf startOf
+  first-held : heldFor (w ++ s) 0 ≡ held kind (part (w ++ s) start len)
+  unfolding heldFor startOf
   first-held = ap (heldIn (w ++ s)) e
 
-  next-held : (n : ℕ) → recordOf (w ++ s) (suc n) ≡ recordOf s n
-  unfolding recordOf
+  next-held : (n : ℕ) → heldFor (w ++ s) (suc n) ≡ heldFor s n
+  unfolding heldFor
   next-held n = rw (start-behind w s e n, record-behind w s (startOf s n)) (go (recordAt s (startOf s n)))
     where
       go : (r : RecordAt) → heldIn (w ++ s) (moved (length w) r) ≡ heldIn s r
@@ -83,8 +83,8 @@ split-of i (k ∷ ks) l h = go (recordAt i 0) refl
 -- ---- what an edit of property n leaves: the new record, and all others as they were
 record Edited (ks i j : List ℕ) (n : ℕ) (new : Held) : Type 0 where
   lays : Lays j ks (records j 0)
-  this : recordOf j n ≡ new
-  others : (m : ℕ) → (m ≡ n → ⊥) → recordOf i m ≡ recordOf j m
+  this : heldFor j n ≡ new
+  others : (m : ℕ) → (m ≡ n → ⊥) → heldFor i m ≡ heldFor j m
 
 module _ (kind : ℕ) (b : List ℕ) (fits : kind < 65536) (short : length b < 65536) where
   edit-first : (w s : List ℕ) {k a l : ℕ} → recordAt (w ++ s) 0 ≡ Whole k a l (length w) → (asked : ℕ) (ks : List ℕ) → Slot asked kind b (HasKind (kindOf asked) b)
@@ -96,7 +96,7 @@ module _ (kind : ℕ) (b : List ℕ) (fits : kind < 65536) (short : length b < 6
         others = others;
       }
     where
-      others : (m : ℕ) → (m ≡ 0 → ⊥) → recordOf (w ++ s) m ≡ recordOf (write kind b ++ s) m
+      others : (m : ℕ) → (m ≡ 0 → ⊥) → heldFor (w ++ s) m ≡ heldFor (write kind b ++ s) m
       others zero d = absurd (d refl)
       others (suc m) d = next-held w s e m ∙ sym (next-held (write kind b) s (read-first kind b s fits short) m)
 
@@ -116,7 +116,7 @@ module _ (kind : ℕ) (b : List ℕ) (fits : kind < 65536) (short : length b < 6
       body : part (w ++ s) a l ≡ part (w ++ s') a l
       body = let i = whole-in w 0 k a l (length w) e in part-stays w s a l (omega (arith, i .ends)) ∙ sym (part-stays w s' a l (omega (arith, i .ends)))
 
-      others : (m : ℕ) → (m ≡ suc n → ⊥) → recordOf (w ++ s) m ≡ recordOf (w ++ s') m
+      others : (m : ℕ) → (m ≡ suc n → ⊥) → heldFor (w ++ s) m ≡ heldFor (w ++ s') m
       others zero d = first-held w s (stands s) ∙ ap (held k) body ∙ sym (first-held w s' (stands s'))
       others (suc m) d = next-held w s (stands s) m ∙ again .others m (λ f. d (ap suc f)) ∙ sym (next-held w s' (stands s') m)
 
@@ -132,8 +132,8 @@ module _ (kind : ℕ) (b : List ℕ) (fits : kind < 65536) (short : length b < 6
       rw (replaced-next w s stands n kind b) (edit-later w s (replaced s n kind b) e k ks n (f .0) (edit ks n (split-of s ks (omega arith) (f .1)) (omega arith) slot (f .1)))
 
 -- ---- the theorem
-kind-small : (k : ℕ) (b : List ℕ) → HasKind (kindOf k) b → k < 65536
-kind-small k b h = go (ltb k 65536) refl
+kind-below : (k : ℕ) (b : List ℕ) → HasKind (kindOf k) b → k < 65536
+kind-below k b h = go (ltb k 65536) refl
   where
     go : (below : Bool) → ltb k 65536 ≡ below → k < 65536
     go true e = ltb-true k 65536 e
@@ -142,31 +142,31 @@ kind-small k b h = go (ltb k 65536) refl
         let d = mod-add-div k 0x0100 in
         absurd (rw (sym (kind-none k (λ f. omega arith) (λ f. omega arith))) at h)
 
-slot-small : (asked kind : ℕ) (b : List ℕ) → Slot asked kind b (HasKind (kindOf asked) b) → kind < 65536
-slot-small asked kind b (inl null) = omega (arith, null .0)
-slot-small asked kind b (inr is) = let h = kind-small asked b (is .1) in omega (arith, is .0)
+slot-below : (asked kind : ℕ) (b : List ℕ) → Slot asked kind b (HasKind (kindOf asked) b) → kind < 65536
+slot-below asked kind b (inl null) = omega (arith, null .0)
+slot-below asked kind b (inr is) = let h = kind-below asked b (is .1) in omega (arith, is .0)
 
--- a record that a property's kind allows, within the instance's 65,535 bytes
-module _ (t i : List ℕ) (n kind : ℕ) (b : List ℕ) (c : Conforms t i) (h : n < length (kindsOf t))
-    (slot : Slot (getD (kindsOf t) n 0) kind b (HasKind (kindOf (getD (kindsOf t) n 0)) b)) (within : length (replaced i n kind b) ≤ 65535) where
+module _ (t i : List ℕ) (n kind : ℕ) (b : List ℕ) (c : Conforms t i) (r : Replaces t i n kind b) where
   body-short : length b < 65536
   unfolding replaced
   body-short =
       let after = write kind b ++ drop (startOf i (suc n)) i in
-      omega (arith, within, length-append (take (startOf i n) i) after, length-append (write kind b) (drop (startOf i (suc n)) i), length-write kind b)
+      omega (arith, r .within, length-append (take (startOf i n) i) after, length-append (write kind b) (drop (startOf i (suc n)) i), length-write kind b)
 
   edited : Edited (kindsOf t) i (replaced i n kind b) n (held kind b)
-  edited = edit kind b (slot-small (getD (kindsOf t) n 0) kind b slot) body-short (kindsOf t) n (split-of i (kindsOf t) (omega arith) (c .lays)) h slot (c .lays)
+  edited =
+      let first = split-of i (kindsOf t) (omega (arith, r .property)) (c .lays) in
+      edit kind b (slot-below (getD (kindsOf t) n 0) kind b (r .allowed)) body-short (kindsOf t) n first (r .property) (r .allowed) (c .lays)
 
   pub replaced-conforms : Conforms t (replaced i n kind b)
-  replaced-conforms = record { free = c .free; short = within; lays = edited .lays }
+  replaced-conforms = record { free = c .free; short = r .within; lays = edited .lays }
 
-  pub replaced-this : recordOf (replaced i n kind b) n ≡ held kind b
+  pub replaced-this : heldFor (replaced i n kind b) n ≡ held kind b
   replaced-this = edited .this
 
   pub replaced-others : SameBut n t i (replaced i n kind b)
   replaced-others m l d = edited .others m d
 
   -- a query that doesn't name the property can't react
-  pub edit-harmless : (q : List ℕ) → (Among n (namedProperties q t) → ⊥) → evaluate q t i ≡ evaluate q t (replaced i n kind b)
-  edit-harmless q out = unnamed-changed q t i (replaced i n kind b) c replaced-conforms n out replaced-others
+  pub replaced-same : (q : List ℕ) → (Member n (namedProperties q t) → ⊥) → evaluate q t i ≡ evaluate q t (replaced i n kind b)
+  replaced-same q out = unnamed-changed q t i (replaced i n kind b) c replaced-conforms n out replaced-others

@@ -20,9 +20,9 @@ use Rattle.operand.specs.Named.{named}
 use Rattle.judge.specs.Meaning.{Meant, meaning}
 use Rattle.judge.specs.Environment.{entryFound}
 use Rattle.filter.specs.Meaning.{truthOf, stepsOf, QueryMeaning, truthful, failure, unlessFailing, queryMeaning, querySteps}
-use Rattle.invariance.specs.NamedProperties.{Among, propertyOf, namedRight, namedBy, namedIn}
+use Rattle.invariance.specs.NamedProperties.{Member, propertyOf, namedRight, namedBy, namedIn}
 use Rattle.invariance.proofs.Alike.{EntriesAlike, neither, entries-same, RightAlike, meaning-alike}
-use Rattle.invariance.proofs.Among.{among-left, among-right}
+use Rattle.invariance.proofs.Members.{member-left, member-right}
 
 -- ---- comparisons that each mean the same
 module _ (m o : Comparison → Meant) where
@@ -61,7 +61,7 @@ module _ (m o : Comparison → Meant) where
 -- ---- environments that agree on what is named
 module _ (q t : List ℕ) (env other : ℕ → Entry) where
   abbrev Agree : (numbers : List ℕ) → Type 0
-  Agree ns = (n : ℕ) → Among n ns → env n ≡ other n
+  Agree ns = (n : ℕ) → Member n ns → env n ≡ other n
 
   entry-agrees : (x : Found) → Agree (propertyOf x) → EntriesAlike (entryFound env x) (entryFound other x)
   entry-agrees (found.Property n k) h = rw (h n (inl refl)) (entries-same (other n))
@@ -81,14 +81,14 @@ module _ (q t : List ℕ) (env other : ℕ → Entry) where
   comparison-agrees c h =
       let left = propertyOf (named q t (c .left .path)) in
       meaning-alike q (under env) (under other) c
-      (right-agrees (c .right) (λ n w. h n (among-right n left _ w)))
-      (entry-agrees (named q t (c .left .path)) (λ n w. h n (among-left n left _ w)))
+      (right-agrees (c .right) (λ n w. h n (member-right n left _ w)))
+      (entry-agrees (named q t (c .left .path)) (λ n w. h n (member-left n left _ w)))
 
   each-agrees : (l : Comparisons) → Agree (namedIn q t l) → Each (meaning q (under env)) (meaning q (under other)) l
   unfolding namedIn Each
   each-agrees (only c) h = comparison-agrees c h
   each-agrees (more c j r) h =
-      (comparison-agrees c (λ n w. h n (among-left n (namedBy q t c) _ w)), each-agrees r (λ n w. h n (among-right n (namedBy q t c) _ w)))
+      (comparison-agrees c (λ n w. h n (member-left n (namedBy q t c) _ w)), each-agrees r (λ n w. h n (member-right n (namedBy q t c) _ w)))
 
   module _ (l : Comparisons) (e : Joined l) (h : Agree (namedIn q t l)) where
     pub meaning-same : queryMeaning (meaning q (under env)) l ≡ queryMeaning (meaning q (under other)) l

@@ -19,7 +19,6 @@ use Rattle.instance.specs.declared.conform.Conformity.{Conformity}
 use Rattle.instance.proofs.Decides.{conforms-no-fault}
 use Rattle.instance.proofs.Built.{appended-conforms}
 use Rattle.instance.proofs.Environment.{environment-stays}
-use Rattle.query_text.specs.Query.{Comparisons, good, query}
 use Rattle.short_circuit.proofs.Loop.{joined}
 use Rattle.judge.specs.Environment.{entryNamed}
 use Rattle.filter.specs.Refusal.{Call, refused, compares, callOf}
@@ -32,9 +31,9 @@ use Rattle.filter.specs.declared.refusal.Answer.the-variants.{Included, Exclude
 use Rattle.filter.specs.declared.refusal.Checked.the-variants.{Accepted}
 use Rattle.filter.proofs.Laws.{call-good}
 use Rattle.filter.proofs.Demand3.{demand3}
-use Rattle.invariance.specs.NamedProperties.{Among, namedIn, namedText, namedProperties}
-use Rattle.invariance.specs.SameRecords.{Held, nothing, held, heldIn, recordOf, SameRecords, SameValues, SameBut, SameVerdict, included, excluded}
-use Rattle.invariance.proofs.Among.{among-distinct}
+use Rattle.invariance.specs.NamedProperties.{Member, namedIn, namedCall, namedProperties}
+use Rattle.invariance.specs.SameRecords.{Held, nothing, held, heldIn, heldFor, SameRecords, SameValues, SameBut, SameVerdict, included, excluded}
+use Rattle.invariance.proofs.Members.{member-distinct}
 use Rattle.invariance.proofs.SameMeaning.{meaning-same, steps-same}
 use Rattle.invariance.proofs.WithinTable.{named-within}
 
@@ -43,8 +42,8 @@ valueHeld : (asked : ℕ) → Held → Value
 valueHeld asked nothing = null
 valueHeld asked (held kind body) = pick (eqb kind 0) null (bodyValue (kindOf asked) body)
 
-value-held : (k : ℕ) (i : List ℕ) (n : ℕ) → valueAt k i (startOf i n) ≡ valueHeld k (recordOf i n)
-unfolding valueAt recordOf valueHeld
+value-held : (k : ℕ) (i : List ℕ) (n : ℕ) → valueAt k i (startOf i n) ≡ valueHeld k (heldFor i n)
+unfolding valueAt heldFor valueHeld
 value-held k i n = go (recordAt i (startOf i n))
   where
     go : (r : RecordAt) → valueIn k i r ≡ valueHeld k (heldIn i r)
@@ -52,7 +51,7 @@ value-held k i n = go (recordAt i (startOf i n))
     go Broken = refl
     go End = refl
 
-entry-held : (t i j : List ℕ) (n : ℕ) → recordOf i n ≡ recordOf j n → environment t i n ≡ environment t j n
+entry-held : (t i j : List ℕ) (n : ℕ) → heldFor i n ≡ heldFor j n → environment t i n ≡ environment t j n
 unfolding environmentUnder
 entry-held t i j n h = go (getElem? (kindsOf t) n)
   where
@@ -63,25 +62,25 @@ entry-held t i j n h = go (getElem? (kindsOf t) n)
 pub records-values : (ns t i j : List ℕ) → SameRecords ns i j → SameValues ns t i j
 records-values ns t i j h n w = entry-held t i j n (h n w)
 
+pub unnamed-records : (q t i j : List ℕ) (n : ℕ) → (Member n (namedProperties q t) → ⊥) → SameBut n t i j → SameRecords (namedProperties q t) i j
+unnamed-records q t i j n out h m w = h m (named-within q t m w) (λ e. out (rw e at w))
+
 -- ---- the theorem
 module _ (q t i j : List ℕ) (c : Conforms t i) (d : Conforms t j) where
-  answer-same : (l : Comparisons) → query q ≡ good l → SameValues (namedText q t (good l)) t i j → evaluateCall q t i (compares l) ≡ evaluateCall q t j (compares l)
+  call-same : (x : Call) → callOf q t ≡ x → SameValues (namedCall q t x) t i j → evaluateCall q t i x ≡ evaluateCall q t j x
   unfolding entryNamed
-  answer-same l e h =
-      let agree : SameValues (namedIn q t l) t i j = λ n w. h n (among-distinct n (namedIn q t l) w) in
+  call-same (refused r p) e h = refl
+  call-same (compares l) e h =
+      let read = joined q l (call-good q t l e) in
+      let agree : SameValues (namedIn q t l) t i j = λ n w. h n (member-distinct n (namedIn q t l) w) in
       ap (λ (k : Conformity). answerOf k (queryMeaning (meantIn q t i) l) (querySteps (meantIn q t i) l)) (conforms-no-fault t i c ∙ sym (conforms-no-fault t j d))
       ∙ ap₂ (λ (m : QueryMeaning) (n : ℕ). answerOf (conformity t j) m n)
-      (meaning-same q t (environment t i) (environment t j) l (joined q l e) agree)
-      (steps-same q t (environment t i) (environment t j) l (joined q l e) agree)
-
-  call-same : (x : Call) → callOf q t ≡ x → SameValues (namedProperties q t) t i j → evaluateCall q t i x ≡ evaluateCall q t j x
-  unfolding namedProperties
-  call-same (refused r p) e h = refl
-  call-same (compares l) e h = let g = call-good q t l e in answer-same l g (rw g at h)
+      (meaning-same q t (environment t i) (environment t j) l read agree)
+      (steps-same q t (environment t i) (environment t j) l read agree)
 
   -- that the same is read is enough
   pub same-values : SameValues (namedProperties q t) t i j → evaluate q t i ≡ evaluate q t j
-  unfolding evaluate
+  unfolding evaluate namedProperties
   same-values h = call-same (callOf q t) refl h
 
   -- THE THEOREM: the answer with its steps, or number and place of the refusal
@@ -99,8 +98,8 @@ module _ (q t i j : List ℕ) (c : Conforms t i) (d : Conforms t j) where
       go (Refused r) y e w = absurd w
 
   -- a change to one property that isn't named changes nothing
-  pub unnamed-changed : (n : ℕ) → (Among n (namedProperties q t) → ⊥) → SameBut n t i j → evaluate q t i ≡ evaluate q t j
-  unnamed-changed n out h = same-records (λ m w. h m (named-within q t m w) (λ e. out (rw e at w)))
+  pub unnamed-changed : (n : ℕ) → (Member n (namedProperties q t) → ⊥) → SameBut n t i j → evaluate q t i ≡ evaluate q t j
+  unnamed-changed n out h = same-records (unnamed-records q t i j n out h)
 
 -- records of a subclass change nothing
 pub subclass-same : (q t i more : List ℕ) → Conforms t i → Fit (records more 0) → length (i ++ more) ≤ 65535

@@ -11,8 +11,9 @@ use Rattle.table.specs.declared.lookup.Found.the-variants as found
 use Rattle.syntax.specs.declared.right_side.RightSide.{RightSide}
 use Rattle.syntax.specs.declared.right_side.RightSide.the-variants.{Literal, Elements, Property, Pattern}
 use Rattle.syntax.specs.declared.comparison.Comparison.{Comparison}
-use Rattle.query_text.specs.Query.{Comparisons, only, more, Query, bad, good, query}
+use Rattle.query_text.specs.Query.{Comparisons, only, more}
 use Rattle.operand.specs.Named.{named}
+use Rattle.filter.specs.Refusal.{Call, refused, compares, callOf}
 
 -- the property that a path names, if there is one
 abbrev pub propertyOf : Found → List ℕ
@@ -43,20 +44,20 @@ unfoldable pub distinct : List ℕ → List ℕ
 distinct [] = []
 distinct (n ∷ ns) = n ∷ without n (distinct ns)
 
--- a text with a fault has no comparisons
-abbrev pub namedText : (query table : List ℕ) → Query → List ℕ
-namedText q t (bad f) = []
-namedText q t (good l) = distinct (namedIn q t l)
+-- what is refused before any comparison is looked at names none
+abbrev pub namedCall : (query table : List ℕ) → Call → List ℕ
+namedCall q t (refused c p) = []
+namedCall q t (compares l) = distinct (namedIn q t l)
 
 unfoldable pub namedProperties : (query table : List ℕ) → List ℕ
-namedProperties q t = namedText q t (query q)
+namedProperties q t = namedCall q t (callOf q t)
 
 -- a number stands in a list
-abbrev pub Among : ℕ → List ℕ → Type 0
-Among n [] = ⊥
-Among n (m ∷ ms) = (n ≡ m) ⊎ Among n ms
+abbrev pub Member : ℕ → List ℕ → Type 0
+Member n [] = ⊥
+Member n (m ∷ ms) = (n ≡ m) ⊎ Member n ms
 
 -- none stands in it a second time
 unfoldable pub Once : List ℕ → Type 0
 Once [] = Unit
-Once (n ∷ ns) = (Among n ns → ⊥) × Once ns
+Once (n ∷ ns) = (Member n ns → ⊥) × Once ns

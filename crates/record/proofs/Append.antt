@@ -1,6 +1,7 @@
 -- Bytes appended leave whole records as they are; the records of what is appended follow.
 use Prim.Native.Nat.{ℕ, zero, suc, _+_, _-_, _≤_, _<_}
 use mathlib.Core.List.{List, _++_}
+use mathlib.Core.Logic.{_↔_}
 use mathlib.Core.Path.{_≡_, refl, sym, ap, _∙_}
 use native.Mathlib.Omega.{arith}
 use lib.ListN.{length, take, drop, length-append, length-drop, take-append-drop}
@@ -83,17 +84,12 @@ appended s t (suc f) at h l g = append-step s t at l (λ next a b k. appended s 
 pub records-append : (s t : List ℕ) → Fit (records s 0) → records (s ++ t) 0 ≡ join (records s 0) (shift (length s) (records t 0))
 records-append s t = appended s t (suc (length s)) 0 (omega arith) (omega arith)
 
-pub fit-shift : (n : ℕ) (rs : Records) → Fit rs → Fit (shift n rs)
+-- further on, records fit as they do where they are
+pub fit-shift : (n : ℕ) (rs : Records) → Fit (shift n rs) ↔ Fit rs
 unfolding Fit shift
-fit-shift n (item at kind start len rest) h = fit-shift n rest h
-fit-shift n (broken at) h = h
-fit-shift n ended h = h
-
-pub shift-fit : (n : ℕ) (rs : Records) → Fit (shift n rs) → Fit rs
-unfolding Fit shift
-shift-fit n (item at kind start len rest) h = shift-fit n rest h
-shift-fit n (broken at) h = h
-shift-fit n ended h = h
+fit-shift n (item at kind start len rest) = fit-shift n rest
+fit-shift n (broken at) = (λ h. h, λ h. h)
+fit-shift n ended = (λ h. h, λ h. h)
 
 pub fit-join : (rs more : Records) → Fit rs → Fit more → Fit (join rs more)
 unfolding Fit join

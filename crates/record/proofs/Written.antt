@@ -11,10 +11,10 @@ use Rattle.base.specs.Part.{part}
 use Rattle.base.specs.LittleEndian.{unsigned}
 use Rattle.base.proofs.ByteLists.{Bytes}
 use Rattle.record.specs.declared.read.RecordAt.the-variants.{Whole}
-use Rattle.record.specs.Record.{recordAt, item, records}
+use Rattle.record.specs.Record.{recordAt}
 use Rattle.record.specs.Write.{littleEndian, stored, write}
 use Rattle.record.proofs.Records.{at-whole}
-use Rattle.record.proofs.Shift.{whole-same, shift, records-first}
+use Rattle.record.proofs.Shift.{whole-same}
 
 -- one law for every width
 pub unsigned-written : (width n : ℕ) → n < 256 ^ width → unsigned (littleEndian width n) ≡ n
@@ -61,6 +61,3 @@ module _ (kind : ℕ) (b s : List ℕ) (k : kind < 65536) (l : length b < 65536)
   pub read-body : part (write kind b ++ s) 4 (length b) ≡ b
   unfolding write littleEndian
   read-body = take-append-seam b s
-
-  pub records-write : records (write kind b ++ s) 0 ≡ item 0 kind 4 (length b) (shift (length (write kind b)) (records s 0))
-  records-write = records-first (write kind b) s read-first
