@@ -31,6 +31,7 @@ pub fn of_accepted_queries() -> Vec<NamedExample> {
             ("On = TRUE", &[0][..]),
             ("Since = NULL", &[4]),
             ("R = R", &[5]),
+            ("R = p.r", &[5]),
             ("Dev = Dev", &[2]),
             ("Dev = {3,14}", &[2]),
             ("Dev <> {}", &[2]),
@@ -38,14 +39,17 @@ pub fn of_accepted_queries() -> Vec<NamedExample> {
             ("Dev[0] = Temp", &[1, 2]),
             ("Dev[0] = Dev[1]", &[2]),
             ("ANY Dev = 14", &[2]),
+            ("ANY Dev = Temp", &[1, 2]),
             ("NOT EVERY Dev < Temp", &[1, 2]),
             ("EVERY Dev >= P.Dev[1]", &[2]),
             ("Name LIKE 'P.Temp'", &[3]),
+            ("Name NOT LIKE 'Temp.*'", &[3]),
             ("Name = 'Temp'", &[3]),
             ("Name = 'On = TRUE OR Temp = 1'", &[3]),
             ("P.Temp = 1 OR temp <> 2", &[1]),
             ("temp = 1 AND TEMP = 1 AND p . tEMP = 1", &[1]),
             ("Dev[1] = Temp AND Name NOT LIKE 'FAN_.*'", &[1, 2, 3]),
+            ("(R > .5 AND Temp < 0) OR (On = TRUE AND Temp > 9)", &[0, 1, 5]),
         ],
     );
     out.extend(with_skipped_comparisons());
@@ -61,6 +65,7 @@ fn with_skipped_comparisons() -> Vec<NamedExample> {
         &sample(),
         &[
             ("On = TRUE OR R < .5", &[0, 5][..]),
+            ("On = TRUE OR Since = NULL", &[0, 4]),
             ("On = FALSE AND ANY Dev = Temp", &[0, 1, 2]),
             ("(On = TRUE) OR (Name = NULL AND Since = NULL)", &[0, 3, 4]),
             ("(On = FALSE AND R = .5 OR On = FALSE) AND (Temp > 0)", &[0, 1, 5]),
@@ -92,6 +97,7 @@ pub fn of_refused_comparisons() -> Vec<NamedExample> {
         &sample(),
         &[
             ("Nope = 1 OR On = TRUE", &[0][..]),
+            ("Nope = 1 OR Q.On = TRUE OR Name = 'On'", &[3]),
             ("Nope = 1", &[]),
             ("Nope = Temp", &[1]),
             ("Temp = Nope OR Nope = Nope", &[1]),
