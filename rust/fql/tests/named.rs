@@ -7,7 +7,10 @@ use common::{agree, agree_on_marks};
 use fql::record::{read, write, Record, CLASS, NULL};
 use fql::types::{BOOLEAN, STRING};
 use reference::cases::named::notion::{self, Notion};
-use reference::cases::named::{named_anew, of_other_kinds, one_anew, run, unnamed_anew, Changes, Naming, Pair};
+use reference::cases::named::{
+    run, with_left_out_changed, with_named_changed, with_one_changed, with_other_kinds, with_unnamed_changed, Changes,
+    Naming, Pair,
+};
 use reference::cases::spread::{Spread, FORMS};
 use reference::cases::{call, Case, Intended};
 use reference::examples::named::{of_accepted_queries, of_refused_comparisons};
@@ -111,7 +114,7 @@ impl Seen {
 fn unnamed(r: &mut Random) {
     let mut seen = Seen::default();
     for _ in 0..PAIRS {
-        let pair = unnamed_anew(r, notion::every_mention);
+        let pair = with_unnamed_changed(r);
         let found = same_answer(&pair);
         seen.add(&pair, found);
     }
@@ -157,7 +160,7 @@ fn one(r: &mut Random) {
     let mut changes = Changes::default();
     let mut of_named = Differences::default();
     for _ in 0..PAIRS {
-        let pair = one_anew(r);
+        let pair = with_one_changed(r);
         if pair.changed().is_subset(&pair.named) {
             of_named.add(&pair);
         } else if same_answer(&pair).is_ok() {
@@ -182,7 +185,7 @@ fn one_property_counts_only_if_named() {
 #[test]
 fn named_properties_count() {
     for_each_seed(|r| {
-        let found = differences((0..FEWER_PAIRS).map(|_| named_anew(r)));
+        let found = differences((0..FEWER_PAIRS).map(|_| with_named_changed(r)));
         found.assert_at_least("all that are named", 1_200, 2_300);
     });
 }
@@ -197,7 +200,7 @@ fn wrong_notions(r: &mut Random) {
         ("in the table's case alone", notion::in_the_same_case, 330, 500),
     ];
     for (what, notion, verdicts, steps) in notions {
-        let found = differences((0..FEWER_PAIRS).map(|_| unnamed_anew(r, notion)));
+        let found = differences((0..FEWER_PAIRS).map(|_| with_left_out_changed(r, notion)));
         found.assert_at_least(what, verdicts, steps);
     }
 }
@@ -215,7 +218,7 @@ fn other_kinds_change_answers() {
         assert_eq!(agree(b"Name = NULL", &table, &write(kind, &[])), Ok(Answer { included, steps: 1 }));
     }
     for_each_seed(|r| {
-        let found = differences((0..FEWER_PAIRS).map(|_| of_other_kinds(r)));
+        let found = differences((0..FEWER_PAIRS).map(|_| with_other_kinds(r)));
         found.assert_at_least("the same bodies of other kinds", 1_000, 750);
     });
 }

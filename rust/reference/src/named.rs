@@ -18,8 +18,8 @@ pub struct Mention<'a> {
     pub property: usize,
 }
 
-/// The mentions in the order of the text. A path of number 20 is none, and there are none in a query that isn't read or
-/// under a table with a fault.
+/// The mentions in the order of the text. A path that is refused with 20 is no mention, and there are none in a query
+/// that isn't read or under a table with a fault.
 pub fn mentions<'a>(query: &'a [u8], table: &[u8]) -> Vec<Mention<'a>> {
     let (Ok(table), Ok(comparisons)) = (Table::read(table), parse(query)) else { return Vec::new() };
     let mut out = Vec::new();
@@ -35,5 +35,10 @@ pub fn mentions<'a>(query: &'a [u8], table: &[u8]) -> Vec<Mention<'a>> {
 
 /// The numbers of the properties that a query names.
 pub fn named_properties(query: &[u8], table: &[u8]) -> BTreeSet<usize> {
-    mentions(query, table).iter().map(|mention| mention.property).collect()
+    properties_of(&mentions(query, table), |_| true)
+}
+
+/// The properties of those mentions that count.
+pub fn properties_of(mentions: &[Mention], counts: impl Fn(&Mention) -> bool) -> BTreeSet<usize> {
+    mentions.iter().filter(|mention| counts(mention)).map(|mention| mention.property).collect()
 }

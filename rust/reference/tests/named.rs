@@ -3,8 +3,9 @@
 
 use std::collections::BTreeSet;
 
-use reference::cases::named::notion::every_mention;
-use reference::cases::named::{named_anew, of_other_kinds, one_anew, run, unnamed_anew, Pair};
+use reference::cases::named::{
+    changed_properties, run, with_named_changed, with_one_changed, with_other_kinds, with_unnamed_changed, Pair,
+};
 use reference::examples::named::{self, NamedExample};
 use reference::mark::instances;
 use reference::random::{for_each_seed, Random};
@@ -35,33 +36,34 @@ fn of_refused_texts_and_tables() {
     hold(named::of_refused_texts_and_tables(), false);
 }
 
-/// The properties for which two conforming instances hold two records, and whether the further records are the same.
-fn differing(table: &[u8], instances: [&[u8]; 2]) -> (BTreeSet<usize>, bool) {
-    let table = Table::read(table).unwrap();
-    let own = table.properties.len();
-    let [first, second] = instances.map(|instance| {
-        assert_eq!(check_instance(&table, instance), None);
-        let records: Vec<(u16, &[u8])> = read(instance).0.iter().map(|record| (record.kind, record.body)).collect();
-        records
-    });
-    ((0..own).filter(|&n| first[n] != second[n]).collect(), first[own..] == second[own..])
+fn assert_conforming(table: &Table, instances: [&[u8]; 2]) {
+    assert_eq!(instances.map(|instance| check_instance(table, instance)), [None; 2]);
 }
 
-fn of_pair(pair: &Pair) -> (BTreeSet<usize>, bool) {
-    let found = differing(&pair.table, [&pair.first, &pair.second]);
-    assert_eq!(found.0, pair.changed());
-    found
+/// The bytes after the records of the table's properties.
+fn further<'a>(table: &Table, instance: &'a [u8]) -> &'a [u8] {
+    let (records, _) = read(instance);
+    records.get(table.properties.len()).map_or(&[], |record| &instance[record.start..])
+}
+
+/// The properties with two records, and whether the further records are the same.
+fn differing(pair: &Pair) -> (BTreeSet<usize>, bool) {
+    let table = Table::read(&pair.table).unwrap();
+    let instances = [&pair.first[..], &pair.second];
+    assert_conforming(&table, instances);
+    let [first, second] = instances.map(|instance| further(&table, instance));
+    (pair.changed(), first == second)
 }
 
 fn pairs(r: &mut Random) {
     for _ in 0..5_000 {
-        let pair = unnamed_anew(r, every_mention);
+        let pair = with_unnamed_changed(r);
         let properties: BTreeSet<usize> = (0..Table::read(&pair.table).unwrap().properties.len()).collect();
-        assert_eq!(of_pair(&pair).0, &properties - &named_properties(&pair.query, &pair.table));
-        let pair = named_anew(r);
-        assert_eq!(of_pair(&pair), (named_properties(&pair.query, &pair.table), true));
-        let pair = one_anew(r);
-        let (changed, same_further) = of_pair(&pair);
+        assert_eq!(differing(&pair).0, &properties - &named_properties(&pair.query, &pair.table));
+        let pair = with_named_changed(r);
+        assert_eq!(differing(&pair), (named_properties(&pair.query, &pair.table), true));
+        let pair = with_one_changed(r);
+        let (changed, same_further) = differing(&pair);
         assert!(changed.len() == 1 && same_further);
     }
 }
@@ -74,8 +76,8 @@ fn pairs_differ_in_what_they_were_made_to() {
 /// Only NULL takes the place of an empty body, and the reverse.
 fn pairs_of_other_kinds(r: &mut Random) {
     for _ in 0..5_000 {
-        let pair = of_other_kinds(r);
-        let (changed, same_further) = of_pair(&pair);
+        let pair = with_other_kinds(r);
+        let (changed, same_further) = differing(&pair);
         assert!(same_further && changed.is_subset(&named_properties(&pair.query, &pair.table)));
         let (first, second) = (read(&pair.first).0, read(&pair.second).0);
         for n in changed {
@@ -96,10 +98,13 @@ fn pairs_of_runs(r: &mut Random) {
         let named = named_properties(&pair.query, &pair.table);
         let [first, second] = [&pair.first, &pair.second].map(|run| instances(run).unwrap());
         assert_eq!([first.len(), second.len()], [pair.conforming.len(); 2]);
-        for (n, conforming) in pair.conforming.iter().enumerate() {
-            match conforming {
-                true => assert!(differing(&pair.table, [first[n], second[n]]).0.is_disjoint(&named)),
-                false => assert!([first[n], second[n]].iter().all(|i| check_instance(&table, i).is_some())),
+        for (n, &conforming) in pair.conforming.iter().enumerate() {
+            let both = [first[n], second[n]];
+            if conforming {
+                assert_conforming(&table, both);
+                assert!(changed_properties(&pair.table, both).is_disjoint(&named));
+            } else {
+                assert!(both.iter().all(|instance| check_instance(&table, instance).is_some()));
             }
         }
     }

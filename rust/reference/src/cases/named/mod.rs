@@ -1,5 +1,5 @@
-//! Two conforming instances of one table (02, Q-3): of some properties they hold the same record, byte for byte, and the
-//! rest of the second is made anew.
+//! Two conforming instances of one table (02, Q-3): of some properties they hold the same record, byte for byte, and of
+//! the rest two.
 
 mod changes;
 mod naming;
@@ -11,33 +11,37 @@ use std::collections::BTreeSet;
 use super::source::Source;
 use super::{mostly_accepted, table, value};
 use crate::kind::{is_array, NULL, OCTETS, REFERENCE, STRING};
-use crate::named::mentions;
+use crate::named::{mentions, named_properties};
 use crate::random::Random;
 use crate::record::{read, write, Table, LENGTH_OF_INSTANCE};
 pub use changes::Changes;
 pub use naming::Naming;
-use notion::{every_mention, Notion};
+use notion::Notion;
 
 pub struct Pair {
     pub query: Vec<u8>,
     pub table: Vec<u8>,
     pub first: Vec<u8>,
     pub second: Vec<u8>,
-    /// The properties that the query names, by the notion that the pair was made with.
+    /// The properties that the query names.
     pub named: BTreeSet<usize>,
 }
 
 impl Pair {
-    /// The properties for which the two instances hold two records.
     pub fn changed(&self) -> BTreeSet<usize> {
-        let properties = Table::read(&self.table).unwrap().properties.len();
-        let (first, second) = (records(&self.first), records(&self.second));
-        (0..properties).filter(|&n| first[n] != second[n]).collect()
+        changed_properties(&self.table, [&self.first, &self.second])
     }
 }
 
-/// A table with an instance, a query, and the properties that it names.
-struct Question {
+/// The properties for which two conforming instances hold two records.
+pub fn changed_properties(table: &[u8], instances: [&[u8]; 2]) -> BTreeSet<usize> {
+    let properties = Table::read(table).unwrap().properties.len();
+    let [first, second] = instances.map(records);
+    (0..properties).filter(|&n| first[n] != second[n]).collect()
+}
+
+/// What the second half of a pair is derived from: a table with an instance, a query, and the properties that it names.
+struct Origin {
     source: Source,
     query: Vec<u8>,
     named: BTreeSet<usize>,
@@ -50,7 +54,7 @@ fn records(instance: &[u8]) -> Records {
     read(instance).0.iter().map(|record| write(record.kind, record.body)).collect()
 }
 
-fn question(r: &mut Random, notion: Notion) -> Question {
+fn origin(r: &mut Random) -> Origin {
     let table = match r.below(5) {
         0 => table::of_all_types(r),
         1 => table::of_integers(r),
@@ -59,63 +63,73 @@ fn question(r: &mut Random, notion: Notion) -> Question {
     };
     let source = Source::new(r, table);
     let query = mostly_accepted(r, &source);
-    let named = notion(&source.table, &mentions(&query, &source.table.write()));
-    Question { source, query, named }
+    let named = named_properties(&query, &source.table.write());
+    Origin { source, query, named }
 }
 
-/// The instance of a question, and what a change makes of its records; another question where that is the same instance
-/// or too long a one.
-fn pair(r: &mut Random, notion: Notion, change: impl Fn(&mut Random, &Question, &mut Records)) -> Pair {
+/// The instance of an origin, and what a change makes of its records; another origin where that is the same instance or
+/// too long a one.
+fn pair(r: &mut Random, change: impl Fn(&mut Random, &Origin, &mut Records)) -> Pair {
     loop {
-        let question = question(r, notion);
-        let mut changed = records(&question.source.instance);
-        change(r, &question, &mut changed);
+        let origin = origin(r);
+        let mut changed = records(&origin.source.instance);
+        change(r, &origin, &mut changed);
         let second = changed.concat();
-        let Question { source, query, named } = question;
+        let Origin { source, query, named } = origin;
         if second != source.instance && second.len() <= LENGTH_OF_INSTANCE {
             return Pair { query, table: source.table.write(), first: source.instance, second, named };
         }
     }
 }
 
-/// For each property that a notion doesn't count as named the second instance holds another record; further records may
-/// differ too.
-pub fn unnamed_anew(r: &mut Random, notion: Notion) -> Pair {
-    pair(r, notion, |r, question, records| change_unnamed(r, &question.source.table, &question.named, records))
+/// For each property that the query doesn't name the second instance holds another record; further records may differ
+/// too.
+pub fn with_unnamed_changed(r: &mut Random) -> Pair {
+    pair(r, |r, origin, records| change_all_but(r, &origin.source.table, &origin.named, records))
+}
+
+/// The same for each property that a notion leaves out, named or not.
+pub fn with_left_out_changed(r: &mut Random, notion: Notion) -> Pair {
+    pair(r, |r, origin, records| {
+        let table = &origin.source.table;
+        let kept = notion(table, &mentions(&origin.query, &table.write()));
+        change_all_but(r, table, &kept, records);
+    })
 }
 
 /// For each property that the query names the second instance holds another record; all else is the same.
-pub fn named_anew(r: &mut Random) -> Pair {
-    pair(r, every_mention, |r, question, records| {
-        for &n in &question.named {
-            records[n] = another(r, question.source.kind(n), &records[n]);
+pub fn with_named_changed(r: &mut Random) -> Pair {
+    pair(r, |r, origin, records| {
+        for &n in &origin.named {
+            records[n] = another(r, origin.source.kind(n), &records[n]);
         }
     })
 }
 
 /// For one property, named or not, the second instance holds another record; all else is the same.
-pub fn one_anew(r: &mut Random) -> Pair {
-    pair(r, every_mention, |r, question, records| {
-        if let Some(n) = question.source.pick(r, |_| true) {
-            records[n] = another(r, question.source.kind(n), &records[n]);
+pub fn with_one_changed(r: &mut Random) -> Pair {
+    pair(r, |r, origin, records| {
+        if let Some(n) = origin.source.pick(r, |_| true) {
+            records[n] = another(r, origin.source.kind(n), &records[n]);
         }
     })
 }
 
 /// For the properties that the query names the second instance holds records of the same body, but NULL for an empty one
 /// or the reverse; all else is the same.
-pub fn of_other_kinds(r: &mut Random) -> Pair {
-    pair(r, every_mention, |_, question, records| {
-        for &n in &question.named {
-            records[n] = of_the_same_body(question.source.kind(n), &records[n]);
+pub fn with_other_kinds(r: &mut Random) -> Pair {
+    pair(r, |_, origin, records| {
+        for &n in &origin.named {
+            records[n] = of_the_same_body(origin.source.kind(n), &records[n]);
         }
     })
 }
 
-fn change_unnamed(r: &mut Random, table: &Table, named: &BTreeSet<usize>, records: &mut Records) {
+/// Another record for each property that isn't kept, and now and then other further records.
+fn change_all_but(r: &mut Random, table: &Table, kept: &BTreeSet<usize>, records: &mut Records) {
     let further = records.split_off(table.properties.len());
     for (n, property) in table.properties.iter().enumerate() {
-        if !named.contains(&n) {
+        if !kept.contains(&n) {
             records[n] = another(r, property.kind, &records[n]);
         }
     }

@@ -1,8 +1,7 @@
 //! Two runs for one query (02, Q-3): at each place two conforming instances that differ in what the query doesn't name,
 //! or two instances that don't conform.
 
-use super::notion::every_mention;
-use super::{change_unnamed, question, records, Question};
+use super::{change_all_but, origin, records, Origin};
 use crate::cases::value;
 use crate::kind::INSTANCE;
 use crate::random::Random;
@@ -18,19 +17,19 @@ pub struct RunPair {
 }
 
 pub fn pair(r: &mut Random) -> RunPair {
-    let question = question(r, every_mention);
+    let origin = origin(r);
     let mut out = RunPair {
-        query: question.query.clone(),
-        table: question.source.table.write(),
+        query: origin.query.clone(),
+        table: origin.source.table.write(),
         first: Vec::new(),
         second: Vec::new(),
         conforming: Vec::new(),
     };
     for _ in 0..r.below(7) {
         let conforms = !r.chance(5);
-        let [first, second] = instances(r, &question).map(|instance| match conforms {
+        let [first, second] = instances(r, &origin).map(|instance| match conforms {
             true => instance,
-            false => not_conforming(r, &question.source.table, &instance),
+            false => not_conforming(r, &origin.source.table, &instance),
         });
         out.first.extend(write(INSTANCE, &first));
         out.second.extend(write(INSTANCE, &second));
@@ -39,12 +38,12 @@ pub fn pair(r: &mut Random) -> RunPair {
     out
 }
 
-fn instances(r: &mut Random, question: &Question) -> [Vec<u8>; 2] {
-    let Question { source, named, .. } = question;
+fn instances(r: &mut Random, origin: &Origin) -> [Vec<u8>; 2] {
+    let Origin { source, named, .. } = origin;
     loop {
         let first = if r.chance(3) { source.instance.clone() } else { value::instance(r, &source.table) };
         let mut changed = records(&first);
-        change_unnamed(r, &source.table, named, &mut changed);
+        change_all_but(r, &source.table, named, &mut changed);
         let second = changed.concat();
         if second.len() <= LENGTH_OF_INSTANCE {
             return [first, second];
