@@ -3,7 +3,9 @@
 
 mod common;
 
-use common::{agree, agree_on_marks};
+use common::often::assert_often;
+use common::pairs::{same_answer, Differences};
+use common::{agree, agree_on_marks, Found};
 use fql::record::{read, write, Record, CLASS, NULL};
 use fql::types::{BOOLEAN, STRING};
 use reference::cases::named::notion::{self, Notion};
@@ -21,34 +23,6 @@ use reference::{Answer, Refusal, Totals};
 const PAIRS: usize = 40_000;
 /// Of pairs whose answers have to differ often, and of runs.
 const FEWER_PAIRS: usize = 10_000;
-
-type Found = Result<Answer, Refusal>;
-
-/// What both evaluators say of each instance of a pair.
-fn answers(pair: &Pair) -> [Found; 2] {
-    [&pair.first, &pair.second].map(|instance| agree(&pair.query, &pair.table, instance))
-}
-
-fn shown(pair: &Pair) -> String {
-    [&pair.first, &pair.second].map(|instance| call("agree", &[&pair.query, &pair.table, instance])).join("\n")
-}
-
-/// The one answer to both instances, or the check's refusal for both.
-fn same_answer(pair: &Pair) -> Found {
-    let [first, second] = answers(pair);
-    assert_eq!(first, second, "{}", shown(pair));
-    assert_eq!(first.err(), reference::check(&pair.query, &pair.table).err(), "{}", shown(pair));
-    first
-}
-
-/// How often something came up, and how often it has to.
-type Often<'a> = (&'a str, usize, usize);
-
-fn assert_often(counts: &[Often]) {
-    for (what, count, least) in counts {
-        assert!(count >= least, "only {count} times: {what}");
-    }
-}
 
 fn assert_every_kind(changes: &Changes, least: usize) {
     for kind in TYPES.iter().flat_map(|&plain| [plain, ARRAY | plain]) {
@@ -115,7 +89,7 @@ fn unnamed(r: &mut Random) {
     let mut seen = Seen::default();
     for _ in 0..PAIRS {
         let pair = with_unnamed_changed(r);
-        let found = same_answer(&pair);
+        let found = same_answer(pair.inputs());
         seen.add(&pair, found);
     }
     seen.assert_changes();
@@ -127,31 +101,10 @@ fn nothing_unnamed_counts() {
     for_each_seed(unnamed);
 }
 
-/// How many pairs have two verdicts, and how many two numbers of steps.
-#[derive(Debug, Default)]
-struct Differences {
-    verdicts: usize,
-    steps: usize,
-}
-
-impl Differences {
-    fn add(&mut self, pair: &Pair) {
-        if let [Ok(first), Ok(second)] = answers(pair) {
-            self.verdicts += usize::from(first.included != second.included);
-            self.steps += usize::from(first.steps != second.steps);
-        }
-    }
-
-    fn assert_at_least(&self, what: &str, verdicts: usize, steps: usize) {
-        println!("{what}: {self:?}");
-        assert!(self.verdicts >= verdicts && self.steps >= steps, "{what}: only {self:?}");
-    }
-}
-
 /// The differences in so many pairs.
 fn differences(pairs: impl Iterator<Item = Pair>) -> Differences {
     let mut out = Differences::default();
-    pairs.for_each(|pair| out.add(&pair));
+    pairs.for_each(|pair| out.add(pair.inputs()));
     out
 }
 
@@ -162,8 +115,8 @@ fn one(r: &mut Random) {
     for _ in 0..PAIRS {
         let pair = with_one_changed(r);
         if pair.changed().is_subset(&pair.named) {
-            of_named.add(&pair);
-        } else if same_answer(&pair).is_ok() {
+            of_named.add(pair.inputs());
+        } else if same_answer(pair.inputs()).is_ok() {
             changes.add(&pair);
         }
     }

@@ -3,27 +3,16 @@
 
 mod common;
 
-use common::agree;
+use common::often::assert_often;
+use common::pairs::{same_answer, Differences};
+use common::{agree, Found};
 use fql::record::{write, CLASS};
 use fql::types::{SINT64, SINT8, STRING};
-use reference::cases::call;
 use reference::cases::widened::{pair, same_number, zero_extended, Changes, Pair};
 use reference::random::{for_each_seed, Random};
 use reference::{Answer, Refusal};
 
 const PAIRS: usize = 40_000;
-
-type Found = Result<Answer, Refusal>;
-
-/// What both evaluators say of each half of a pair.
-fn answers(pair: &Pair) -> [Found; 2] {
-    [&pair.first, &pair.second].map(|(table, instance)| agree(&pair.query, table, instance))
-}
-
-fn shown(pair: &Pair) -> String {
-    let half = |(table, instance): &(Vec<u8>, Vec<u8>)| call("agree", &[&pair.query, table, instance]);
-    format!("{}\n{}", half(&pair.first), half(&pair.second))
-}
 
 /// What came up, so that the test can't pass by trying nothing.
 #[derive(Debug, Default)]
@@ -47,9 +36,9 @@ impl Seen {
         self.answered_over_others += usize::from(found.is_ok() && pair.changes.scalars + pair.changes.arrays > 0);
     }
 
-    fn assert_often(&self) {
+    fn assert_spread(&self) {
         let c = &self.changes;
-        for (what, count, least) in [
+        assert_often(&[
             ("scalars of another type", c.scalars, 20_000),
             ("arrays of another type", c.arrays, 20_000),
             ("more bytes", c.wider, 20_000),
@@ -63,9 +52,7 @@ impl Seen {
             ("excluded", self.excluded, 8_000),
             ("refused by the check", self.refused, 2_000),
             ("answered over a table with another type", self.answered_over_others, 15_000),
-        ] {
-            assert!(count >= least, "only {count} times: {what}");
-        }
+        ]);
     }
 }
 
@@ -73,15 +60,11 @@ fn widening(r: &mut Random) {
     let mut seen = Seen::default();
     for _ in 0..PAIRS {
         let pair = pair(r, same_number);
-        let checks = [&pair.first.0, &pair.second.0].map(|table| fql::check(&pair.query, table));
-        assert_eq!(checks[0], checks[1], "{}", shown(&pair));
-        let found = answers(&pair);
-        assert_eq!(found[0], found[1], "{}", shown(&pair));
-        assert_eq!(found[0].is_ok(), checks[0].is_ok(), "{}", shown(&pair));
-        seen.add(&pair, found[0]);
+        let found = same_answer(pair.inputs());
+        seen.add(&pair, found);
     }
     println!("{seen:?}");
-    seen.assert_often();
+    seen.assert_spread();
 }
 
 #[test]
@@ -91,16 +74,11 @@ fn a_query_keeps_its_answer() {
 
 /// With negative numbers that become positive ones, verdicts and steps differ: the test above would tell.
 fn wrong_widening(r: &mut Random) {
-    let (mut verdicts, mut steps) = (0, 0);
+    let mut found = Differences::default();
     for _ in 0..PAIRS {
-        let found = answers(&pair(r, zero_extended));
-        if let [Ok(first), Ok(second)] = found {
-            verdicts += usize::from(first.included != second.included);
-            steps += usize::from(first.steps != second.steps);
-        }
+        found.add(pair(r, zero_extended).inputs());
     }
-    println!("{verdicts} other verdicts, {steps} other steps");
-    assert!(verdicts >= 250 && steps >= 300, "only {verdicts} other verdicts and {steps} other steps");
+    found.assert_at_least("zero-extended", 250, 300);
 }
 
 #[test]

@@ -2,10 +2,16 @@
 //! one. Each test file uses some of it.
 #![allow(dead_code)]
 
+pub mod often;
+pub mod pairs;
+
 use std::fmt::Debug;
 
 use reference::cases::call;
 use reference::{Answer, FaultText, Refusal, Totals};
+
+/// Verdict and steps, or number and place.
+pub type Found = Result<Answer, Refusal>;
 
 fn refusal(r: fql::Refusal) -> Refusal {
     Refusal { number: r.cause.number(), place: r.place }
@@ -24,8 +30,8 @@ fn same<T: PartialEq + Debug>(found: T, expected: T, shown: impl Fn() -> String)
     found
 }
 
-/// What both say of a query on an instance: verdict and steps, or number and place.
-pub fn agree(query: &[u8], table: &[u8], instance: &[u8]) -> Result<Answer, Refusal> {
+/// What both say of a query on an instance.
+pub fn agree(query: &[u8], table: &[u8], instance: &[u8]) -> Found {
     let shown = || call("agree", &[query, table, instance]);
     let _ = same(fql::check(query, table).map_err(refusal), reference::check(query, table), shown);
     let found = fql::evaluate(query, table, instance).map(answer).map_err(refusal);

@@ -55,6 +55,9 @@ impl Case {
     }
 }
 
+/// A query, a table and an instance.
+pub type Input<'a> = [&'a [u8]; 3];
+
 /// A line of a test that calls a function with these bytes.
 pub fn call(function: &str, slices: &[&[u8]]) -> String {
     let literals: Vec<String> = slices.iter().map(|bytes| format!("b\"{}\"", bytes.escape_ascii())).collect();

@@ -2,7 +2,7 @@
 //! keeps its answer.
 
 use super::source::Source;
-use super::{mostly_accepted, table, value};
+use super::{mostly_accepted, table, value, Input};
 use crate::integer;
 use crate::kind::{is_array, type_of, ARRAY, INTEGERS, NULL};
 use crate::random::Random;
@@ -30,6 +30,12 @@ pub struct Pair {
     /// The same numbers in other types.
     pub second: (Vec<u8>, Vec<u8>),
     pub changes: Changes,
+}
+
+impl Pair {
+    pub fn inputs(&self) -> [Input<'_>; 2] {
+        [&self.first, &self.second].map(|(table, instance)| [&self.query[..], table, instance])
+    }
 }
 
 /// How many properties have another type, what stands in these, and in how many pairs the subclass's records differ.

@@ -9,7 +9,7 @@ pub mod run;
 use std::collections::BTreeSet;
 
 use super::source::Source;
-use super::{mostly_accepted, table, value};
+use super::{mostly_accepted, table, value, Input};
 use crate::kind::{is_array, NULL, OCTETS, REFERENCE, STRING};
 use crate::named::{mentions, named_properties};
 use crate::random::Random;
@@ -28,6 +28,10 @@ pub struct Pair {
 }
 
 impl Pair {
+    pub fn inputs(&self) -> [Input<'_>; 2] {
+        [&self.first, &self.second].map(|instance| [&self.query[..], &self.table, instance])
+    }
+
     pub fn changed(&self) -> BTreeSet<usize> {
         changed_properties(&self.table, [&self.first, &self.second])
     }
