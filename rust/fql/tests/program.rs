@@ -72,7 +72,7 @@ fn of_a_run_with_the_most_records() {
     assert_eq!(run(&folder), "refused 40 65536\n");
 }
 
-/// With the files named here made unreadable in some way, the rest as in the sample.
+/// With these files made unreadable in some way, the rest as in the sample.
 fn with(name: &str, unreadable: &[&str], make: impl Fn(&Path)) -> String {
     let folder = folder(name);
     write(&folder, &sample_files());

@@ -53,7 +53,7 @@ fn in_query(query: &[u8], offset: usize) -> String {
     out
 }
 
-/// The properties that count, the totals, and for each instance that fails its record at fault.
+/// The properties that the query names, the totals, and for each instance that fails its record at fault.
 fn accepted(query: &[u8], table: &[u8], run: &[u8]) -> String {
     let mut out = format!("accepted\nnames {}\n", named(query, table).join(", "));
     let totals = fql::mark(query, table, run, &mut marks(run)).expect("a run without refusal");

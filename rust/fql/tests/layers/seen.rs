@@ -18,7 +18,7 @@ impl Seen {
     pub fn assert_at_least(&self, least: &[(&'static str, usize)]) {
         println!("{:?}", self.0);
         for (sort, count) in &self.0 {
-            assert!(least.iter().any(|(named, _)| named == sort), "{count} times {sort}, which is not asked for");
+            assert!(least.iter().any(|(asked, _)| asked == sort), "{count} times {sort}, which is not asked for");
         }
         for (sort, least) in least {
             let count = self.0.get(sort).copied().unwrap_or(0);

@@ -116,7 +116,7 @@ fn pattern(r: &mut Random) -> Case {
     decided(r, &s, &tokens, within, 24)
 }
 
-fn named(names: &[String], kind: u16) -> Table {
+fn with_names(names: &[String], kind: u16) -> Table {
     let property = |name: &String| Property { name: name.as_bytes().to_vec(), kind };
     Table { class: b"C".to_vec(), properties: names.iter().map(property).collect() }
 }
@@ -126,7 +126,7 @@ fn on_nulls(r: &mut Random, names: &[String], intended: Intended) -> Case {
     let kind = r.pick(&TYPES);
     let query = format!("{} = NULL", names.last().unwrap()).into_bytes();
     let instance = write(NULL, &[]).repeat(names.len());
-    Case { sort: "limit", query, table: named(names, kind).write(), instance, intended }
+    Case { sort: "limit", query, table: with_names(names, kind).write(), instance, intended }
 }
 
 /// 127 names of 60 bytes and one more, 8,137 bytes without that name.

@@ -86,8 +86,8 @@ fn on_other_instances() -> Vec<Example> {
         stopped.ask(&[("Started = TRUE", Excluded(1)), ("Started = TRUE AND StartMode = 'Manual'", Excluded(1))]),
     );
     out.extend(metric().with("Threshold", uint64(25)).ask(&[("Threshold > 25", Excluded(1))]));
-    let named = metric().with("CreationClassName", text("ACME_Disk"));
-    out.extend(named.ask(&[("CreationClassName NOT LIKE 'CIM_.*'", Included(10))]));
+    let disk = metric().with("CreationClassName", text("ACME_Disk"));
+    out.extend(disk.ask(&[("CreationClassName NOT LIKE 'CIM_.*'", Included(10))]));
     out.extend(order.ask(&[
         ("Dedicated = {3,14}", Excluded(1)),
         ("ANY Dedicated = 3 AND ANY Dedicated = 14", Included(6)),
