@@ -49,6 +49,7 @@ abbrev pub namedCall : (query table : List ℕ) → Call → List ℕ
 namedCall q t (refused c p) = []
 namedCall q t (compares l) = distinct (namedIn q t l)
 
+-- the properties that a query names
 unfoldable pub namedProperties : (query table : List ℕ) → List ℕ
 namedProperties q t = namedCall q t (callOf q t)
 
@@ -57,7 +58,7 @@ abbrev pub Member : ℕ → List ℕ → Type 0
 Member n [] = ⊥
 Member n (m ∷ ms) = (n ≡ m) ⊎ Member n ms
 
--- none stands in it a second time
+-- none of its numbers stands there again
 unfoldable pub Once : List ℕ → Type 0
 Once [] = Unit
 Once (n ∷ ns) = (Member n ns → ⊥) × Once ns
