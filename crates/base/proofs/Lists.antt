@@ -1,12 +1,12 @@
--- Laws of lists for loops over a slice: what is left at an offset, one step and at the end; parts; bytes past the end; equal bytes.
+-- Laws of lists for loops over a slice: what is left at an offset, one step and at the end; what stands beyond; parts; bytes past the end; equal bytes.
 use Prim.Native.Nat.{ℕ, _+_, _-_, _≤_, _<_}
-use mathlib.Core.List.{List, [], _∷_}
+use mathlib.Core.List.{List, [], _∷_, _++_}
 use mathlib.Core.Bool.{Bool, true, false}
 use mathlib.Core.Path.{_≡_, refl, sym, ap, _∙_}
 use native.Mathlib.Numerals.{add-one}
 use native.Mathlib.Omega.{arith}
 use lib.ListN.{length, getD, take, drop, length-take, length-drop, drop-of-length-le, List·getD-eq-default}
-use lib.Seq.{drop-cons, take-all, take-nil, length-take-le}
+use lib.Seq.{drop-cons, take-all, take-nil, length-take-le, getD-append-add, getD-drop}
 use native.Mathlib.Nat.{add-sub-cancel-left, min-le-left}
 use lib.Dec.{leb, eqb}
 use borrow.Author.Tests.{leb-true, leb-false, eq-eqb, eqb-true}
@@ -25,6 +25,16 @@ at-next f s i h = ap f (left-next s i h)
 -- nothing is left at the end, under any function
 pub at-end {ℓ} : {R : Type ℓ} (f : List ℕ → R) (s : List ℕ) (i : ℕ) → length s ≤ i → f (drop i s) ≡ f []
 at-end f s i h = ap f (drop-of-length-le s h)
+
+-- what is written over the front of a list leaves what stands beyond
+pub beyond-kept : (front s : List ℕ) (n i : ℕ) → length front ≡ n → n ≤ i → getD (front ++ drop n s) i 0 ≡ getD s i 0
+beyond-kept front s n i e h =
+    let a : i ≡ length front + (i - n) = omega arith in
+    let b : n + (i - n) ≡ i = omega arith in
+    ap (λ (j : ℕ). getD (front ++ drop n s) j 0) a
+    ∙ getD-append-add front (drop n s) (i - n) 0
+    ∙ getD-drop n s (i - n) 0
+    ∙ ap (λ (j : ℕ). getD s j 0) b
 
 -- bytes past the end
 pub byte-past : (s : List ℕ) (at : ℕ) → length s ≤ at → 0 ≡ byteAt s at

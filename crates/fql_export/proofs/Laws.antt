@@ -15,10 +15,16 @@ use Rattle.mark.specs.Mark as mark
 use Rattle.mark.specs.declared.refusal.MarkRefusal.{MarkRefusal}
 use Rattle.mark.specs.declared.refusal.Marked.{Marked}
 use Rattle.mark.specs.declared.refusal.Marked.the-variants as marked
+use Rattle.watch.specs.Watch as watch
+use Rattle.watch.specs.declared.refusal.WatchTotals.{WatchTotals}
+use Rattle.watch.specs.declared.refusal.WatchRefusal.{WatchRefusal}
+use Rattle.watch.specs.declared.refusal.Watched.{Watched}
+use Rattle.watch.specs.declared.refusal.Watched.the-variants as watched
 use Rattle.fql_export.specs.declared.FqlRefusal.{FqlRefusal}
 use Rattle.fql_export.specs.declared.FqlAnswer.{FqlAnswer}
 use Rattle.fql_export.specs.declared.FqlTotals.{FqlTotals}
-use Rattle.fql_export.specs.Answers.{refusalOf, answerOf, totalsOf, partOf}
+use Rattle.fql_export.specs.declared.FqlWatched.{FqlWatched}
+use Rattle.fql_export.specs.Answers.{refusalOf, answerOf, totalsOf, watchedOf, partOf}
 
 module _ (c : Checked) where
   pub refusal-none : c ≡ checked.Accepted → record { number = 0; place = 0 } ≡ refusalOf c
@@ -45,6 +51,13 @@ module _ (m : Marked) where
       → record { number = n; place = r .place; included = 0; excluded = 0; failed = 0 } ≡ totalsOf m
   totals-refused r e en = rw (e, en) refl
 
+module _ (w : Watched) where
+  pub watched-counted : (x : WatchTotals) → w ≡ watched.Totals x → record { number = 0; place = 0; ones = x .ones; zeros = x .zeros } ≡ watchedOf w
+  watched-counted x e = rw e refl
+
+  pub watched-refused : (r : WatchRefusal) → w ≡ watched.Refused r → {n : ℕ} → n ≡ watch.numberOf (r .cause) → record { number = n; place = r .place; ones = 0; zeros = 0 } ≡ watchedOf w
+  watched-refused r e en = rw (e, en) refl
+
 module _ (ql tl n p : ℕ) {x : Shown} (e : x ≡ shownOf ql tl n p) where
   pub part-none : x ≡ Nothing → record { source = 0; start = 0; length = 0 } ≡ partOf (shownOf ql tl n p) ql tl p
   part-none f = rw (← e, f) refl
@@ -57,6 +70,9 @@ module _ (ql tl n p : ℕ) {x : Shown} (e : x ≡ shownOf ql tl n p) where
 
 pub of-mark : {a b : Marked} {r : FqlTotals} → a ≡ b → r ≡ totalsOf a → r ≡ totalsOf b
 of-mark e h = h ∙ ap totalsOf e
+
+pub of-watch : {a b : Watched} {r : FqlWatched} → a ≡ b → r ≡ watchedOf a → r ≡ watchedOf b
+of-watch e h = h ∙ ap watchedOf e
 
 pub of-check : {c d : Checked} {r : FqlRefusal} → c ≡ d → r ≡ refusalOf c → r ≡ refusalOf d
 of-check e h = h ∙ ap refusalOf e

@@ -10,9 +10,13 @@ use Rattle.fault_text.specs.Part as part
 use Rattle.mark.specs.Mark as mark
 use Rattle.mark.specs.declared.refusal.Marked.{Marked}
 use Rattle.mark.specs.declared.refusal.Marked.the-variants as marked
+use Rattle.watch.specs.Watch as watch
+use Rattle.watch.specs.declared.refusal.Watched.{Watched}
+use Rattle.watch.specs.declared.refusal.Watched.the-variants as watched
 use Rattle.fql_export.specs.declared.FqlRefusal.{FqlRefusal}
 use Rattle.fql_export.specs.declared.FqlAnswer.{FqlAnswer}
 use Rattle.fql_export.specs.declared.FqlTotals.{FqlTotals}
+use Rattle.fql_export.specs.declared.FqlWatched.{FqlWatched}
 use Rattle.fql_export.specs.declared.FqlPart.{FqlPart}
 
 abbrev pub refusalOf : Checked → FqlRefusal
@@ -27,6 +31,10 @@ answerOf (answer.Refused r) = record { number = numberOf (r .cause); place = r .
 abbrev pub totalsOf : Marked → FqlTotals
 totalsOf (marked.Totals x) = record { number = 0; place = 0; included = x .included; excluded = x .excluded; failed = x .failed }
 totalsOf (marked.Refused r) = record { number = mark.numberOf (r .cause); place = r .place; included = 0; excluded = 0; failed = 0 }
+
+abbrev pub watchedOf : Watched → FqlWatched
+watchedOf (watched.Totals x) = record { number = 0; place = 0; ones = x .ones; zeros = x .zeros }
+watchedOf (watched.Refused r) = record { number = watch.numberOf (r .cause); place = r .place; ones = 0; zeros = 0 }
 
 -- fault_text/specs/Part
 abbrev pub partOf : Shown → (queryLength tableLength place : ℕ) → FqlPart

@@ -8,13 +8,16 @@ use filter::refusal::Checked;
 use filter::refusal::number_of;
 use mark::mark::mark;
 use mark::refusal::Marked;
+use watch::refusal::Watched;
+use watch::watch::watch;
 ghost use mathlib.Core.Path.{_≡_};
 ghost use lib.ListN.{length};
 ghost use Rattle.filter.specs.Check as Check;
 ghost use Rattle.filter.specs.Evaluate as Evaluate;
 ghost use Rattle.mark.specs.Mark as Mark;
+ghost use Rattle.watch.specs.Watch as Watch;
 ghost use Rattle.fault_text.specs.FaultText.{shownOf};
-ghost use Rattle.fql_export.specs.Answers.{refusalOf, answerOf, totalsOf, partOf};
+ghost use Rattle.fql_export.specs.Answers.{refusalOf, answerOf, totalsOf, watchedOf, partOf};
 
 // A refusal's number and place; number 0 where there is none.
 #[repr(C)]
@@ -40,6 +43,15 @@ pub struct FqlTotals {
     pub included: u64,
     pub excluded: u64,
     pub failed: u64,
+}
+
+// Where the number is 0, how many instances of the run are marked 1 and 0.
+#[repr(C)]
+pub struct FqlWatched {
+    pub number: u64,
+    pub place: u64,
+    pub ones: u64,
+    pub zeros: u64,
 }
 
 // Which text (0 none, 1 the query, 2 the table), from which byte on, and how many bytes of it.
@@ -120,6 +132,28 @@ fn totals_of(m: Marked) -> FqlTotals
     }
 }
 
+fn watched_of(w: Watched) -> FqlWatched
+    ensures { λ r. ⌜ r ≡ watchedOf w ⌝ }
+{
+    match w {
+        Watched::Totals(x) => FqlWatched {
+            number: 0,
+            place: 0,
+            ones: x.ones as u64,
+            zeros: x.zeros as u64,
+        },
+        Watched::Refused(x) => {
+            let cause = x.cause;
+            FqlWatched {
+                number: watch::refusal::number_of(cause) as u64,
+                place: x.place as u64,
+                ones: 0,
+                zeros: 0,
+            }
+        }
+    }
+}
+
 #[no_mangle]
 pub extern "C" fn fql_check<'a>(query: &'a [u8], table: &'a [u8]) -> FqlRefusal
     ensures { λ r. ⌜ r ≡ refusalOf (Check.check (now (query .entry)) (now (table .entry))) ⌝ }
@@ -148,6 +182,20 @@ pub extern "C" fn fql_mark<'a>(
     ensures { λ r. ⌜ (r ≡ totalsOf (Mark.mark (now (query .entry)) (now (table .entry)) (now (run .entry)) (length (now (marks .entry))))) × (now (marks .exit) ≡ Mark.marksAfter (now (query .entry)) (now (table .entry)) (now (run .entry)) (now (marks .entry))) × (length (now (marks .exit)) ≡ length (now (marks .entry))) ⌝ }
 {
     totals_of(mark(query, table, run, marks))
+}
+
+#[no_mangle]
+pub extern "C" fn fql_watch<'a>(
+    query: &'a [u8],
+    table: &'a [u8],
+    run: &'a [u8],
+    window: u64,
+    need: u64,
+    marks: &mut [u8],
+) -> FqlWatched
+    ensures { λ r. ⌜ (r ≡ watchedOf (Watch.watch (now (query .entry)) (now (table .entry)) (now (run .entry)) window need (length (now (marks .entry))))) × (now (marks .exit) ≡ Watch.marksAfter (now (query .entry)) (now (table .entry)) (now (run .entry)) window need (now (marks .entry))) × (length (now (marks .exit)) ≡ length (now (marks .entry))) ⌝ }
+{
+    watched_of(watch(query, table, run, window as usize, need as usize, marks))
 }
 
 // The part is named and not lent: the caller holds both texts.

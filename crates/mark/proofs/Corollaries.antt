@@ -1,13 +1,13 @@
 -- What follows for a call of mark: the totals, each mark, the bytes beyond.
-use Prim.Native.Nat.{ℕ, zero, suc, _+_, _-_, _≤_, _<_}
+use Prim.Native.Nat.{ℕ, zero, suc, _≤_, _<_}
 use mathlib.Core.List.{List, [], _∷_, _++_, map}
 use mathlib.Core.Bool.{Bool, true, false}
 use mathlib.Core.Path.{_≡_, refl, sym, ap, _∙_}
 use native.Mathlib.Omega.{arith}
 use lib.ListN.{length, getD, drop, length-map, List·getD-append}
-use lib.Seq.{getD-append-add, getD-drop}
 use lib.Dec.{ltb}
 use Rattle.base.specs.Pick.{pick}
+use Rattle.base.proofs.Lists.{beyond-kept}
 use Rattle.filter.specs.Check.{check}
 use Rattle.filter.specs.Evaluate.{evaluate}
 use Rattle.filter.specs.declared.refusal.Checked.{Checked}
@@ -22,7 +22,7 @@ use Rattle.run.specs.Run.{runReading, instancesOf}
 use Rattle.run.specs.Totals.{markOf, answersOf, marksOf, totalsOf}
 use Rattle.mark.specs.Mark.{markRead, markChecked, mark, marksBy, marksAfter}
 use Rattle.run.proofs.Counting.{sum}
-use Rattle.run.proofs.Corollaries.{totals-sum}
+use Rattle.run.proofs.Corollaries.{totals-sum, marks-length}
 
 -- a good call returns the totals of its instances' answers
 not-totals : (r : MarkRefusal) (x : Totals) → marked.Refused r ≡ marked.Totals x → ⊥
@@ -68,25 +68,14 @@ module _ (q t run m : List ℕ) where
     answers-length : length (answersOf q t run) ≡ length (instancesOf run)
     answers-length = length-map (instancesOf run) (evaluate q t)
 
-    marks-length : length (marksOf q t run) ≡ length (instancesOf run)
-    marks-length = length-map (answersOf q t run) markOf ∙ answers-length
-
     -- the i-th mark is the byte of what evaluate says of the i-th instance
     pub mark-at : (i : ℕ) → i < length (instancesOf run) → getD (marksAfter q t run m) i 0 ≡ markOf (evaluate q t (getD (instancesOf run) i []))
     mark-at i h =
         ap (λ (l : List ℕ). getD l i 0) after
-        ∙ List·getD-append (marksOf q t run) (drop (length (instancesOf run)) m) 0 i (omega (arith, marks-length))
+        ∙ List·getD-append (marksOf q t run) (drop (length (instancesOf run)) m) 0 i (omega (arith, marks-length q t run))
         ∙ mapped-at markOf (answersOf q t run) i 0 (evaluate q t []) (omega (arith, answers-length))
         ∙ ap markOf (mapped-at (evaluate q t) (instancesOf run) i (evaluate q t []) [] h)
 
     -- "bytes beyond keep their values"
     pub mark-beyond : (i : ℕ) → length (instancesOf run) ≤ i → getD (marksAfter q t run m) i 0 ≡ getD m i 0
-    mark-beyond i h =
-        let n = length (instancesOf run) in
-        let e : length (marksOf q t run) + (i - n) ≡ i = omega (arith, marks-length) in
-        let f : n + (i - n) ≡ i = omega arith in
-        ap (λ (l : List ℕ). getD l i 0) after
-        ∙ ap (λ (k : ℕ). getD (marksOf q t run ++ drop n m) k 0) (sym e)
-        ∙ getD-append-add (marksOf q t run) (drop n m) (i - n) 0
-        ∙ getD-drop n m (i - n) 0
-        ∙ ap (λ (k : ℕ). getD m k 0) f
+    mark-beyond i h = ap (λ (l : List ℕ). getD l i 0) after ∙ beyond-kept (marksOf q t run) m (length (instancesOf run)) i (marks-length q t run) h

@@ -32,7 +32,7 @@ use Rattle.filter.proofs.QueryAgree.{truthCall}
 use Rattle.filter.proofs.Laws.{evaluates}
 use Rattle.filter.proofs.Corollaries.{instance-refusals}
 use Rattle.run.specs.Run.{bodiesOf, instancesOf}
-use Rattle.run.specs.Totals.{markOf, answersOf, count, totalsOf}
+use Rattle.run.specs.Totals.{markOf, answersOf, marksOf, count, totalsOf}
 use Rattle.run.proofs.Counting.{sum}
 
 -- ---- the totals
@@ -46,6 +46,10 @@ sum-of (Refused r ∷ l) = omega (arith, sum-of l)
 -- included + excluded + failed is the number of instances
 pub totals-sum : (q t run : List ℕ) → sum (totalsOf (answersOf q t run)) ≡ length (instancesOf run)
 totals-sum q t run = sum-of (answersOf q t run) ∙ length-map (instancesOf run) (evaluate q t)
+
+-- one mark for each instance
+pub marks-length : (q t run : List ℕ) → length (marksOf q t run) ≡ length (instancesOf run)
+marks-length q t run = length-map (answersOf q t run) markOf ∙ length-map (instancesOf run) (evaluate q t)
 
 -- ---- the instances of a run: a body's length has two bytes
 module _ (s : List ℕ) (b : Bytes s) where

@@ -1,3 +1,4 @@
 pub mod Laws
+pub mod Counts
 pub mod Counting
 pub mod Corollaries

@@ -38,8 +38,8 @@ isFailed (Included steps) = false
 isFailed (Excluded steps) = false
 isFailed (Refused r) = true
 
--- how many answers are of a sort
-unfoldable pub count : (Answer → Bool) → List Answer → ℕ
+-- how many members of a list are of a sort
+unfoldable pub count : {A : Type 0} → (A → Bool) → List A → ℕ
 count sort [] = 0
 count sort (a ∷ rest) = pick (sort a) 1 0 + count sort rest
 

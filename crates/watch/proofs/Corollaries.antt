@@ -1,0 +1,112 @@
+-- What follows for a call of watch: when it is refused with 42, the totals, each mark, the bytes beyond.
+use Prim.Native.Nat.{ℕ, _+_, _≤_, _<_}
+use mathlib.Core.List.{List, _++_}
+use mathlib.Core.Logic.{_↔_}
+use mathlib.Core.Bool.{Bool, true, false}
+use mathlib.Core.Path.{_≡_, refl, sym, ap, _∙_}
+use native.Mathlib.Omega.{arith}
+use lib.ListN.{length, getD, take, drop, List·getD-append}
+use Rattle.base.specs.Pick.{pick}
+use Rattle.base.proofs.Lists.{beyond-kept}
+use Rattle.run.specs.Run.{instancesOf}
+use Rattle.run.specs.Totals.{marksOf}
+use Rattle.run.specs.declared.totals.Totals.{Totals}
+use Rattle.run.proofs.Corollaries.{marks-length}
+use Rattle.mark.specs.Mark as mark
+use Rattle.mark.specs.declared.refusal.Marked.{Marked}
+use Rattle.mark.specs.declared.refusal.Marked.the-variants as marked
+use Rattle.watch.specs.declared.refusal.WatchTotals.{WatchTotals}
+use Rattle.watch.specs.declared.refusal.WatchRefusal.{WatchRefusal}
+use Rattle.watch.specs.declared.refusal.WatchCause.{WatchCause}
+use Rattle.watch.specs.declared.refusal.WatchCause.the-variants.{Window, Mark}
+use Rattle.watch.specs.declared.refusal.Watched.{Watched}
+use Rattle.watch.specs.declared.refusal.Watched.the-variants as watched
+use Rattle.watch.specs.Window.{included, windowMark}
+use Rattle.watch.specs.Watch.{inRange, totalsOf, watchedOf, watchMarked, watch, marksBy, marksAfter}
+use Rattle.watch.proofs.Marks.{from-sum, watched-at, watched-length}
+use Rattle.watch.proofs.PlainMarks.{one-exactly}
+
+-- ---- 42 exactly where the window or the need is outside its range, whatever else is wrong
+windowCause : WatchCause → ℕ
+windowCause Window = 1
+windowCause (Mark c) = 0
+
+windowFault : Watched → ℕ
+windowFault (watched.Totals x) = 0
+windowFault (watched.Refused r) = windowCause (r .cause)
+
+module _ (q t run : List ℕ) (n k size : ℕ) where
+  abbrev outside : Watched
+  outside = watched.Refused (record { cause = Window; place = 0 })
+
+  not-window : (ms : List ℕ) (v : Marked) → watchMarked ms v ≡ outside → ⊥
+  unfolding windowFault windowCause
+  not-window ms (marked.Refused r) e = let z : _≡_ {A = ℕ} 0 1 = ap windowFault e in omega arith
+  not-window ms (marked.Totals y) e = let z : _≡_ {A = ℕ} 0 1 = ap windowFault e in omega arith
+
+  decides : (b : Bool) (ms : List ℕ) (v : Marked) → (pick b (watchMarked ms v) outside ≡ outside) ↔ (b ≡ false)
+  decides true ms v = (λ e. absurd (not-window ms v e), λ e. let z : _≡_ {A = ℕ} 0 1 = cc in absurd (omega arith))
+  decides false ms v = (λ e. refl, λ e. refl)
+
+  pub window-exactly : (watch q t run n k size ≡ outside) ↔ (inRange n k ≡ false)
+  unfolding watch
+  window-exactly = decides (inRange n k) (watchedOf q t run n k) (mark.mark q t run size)
+
+-- ---- a good call is one that mark too would serve, and returns how many of its marks are 1 and how many are 0
+module _ (q t run : List ℕ) (n k size : ℕ) (x : WatchTotals) where
+  not-totals : (r : WatchRefusal) → watched.Refused r ≡ watched.Totals x → ⊥
+  not-totals r e = let z : _≡_ {A = ℕ} 0 1 = cc in omega arith
+
+  abbrev Good : (marks : List ℕ) → Marked → Type 0
+  Good ms v = (x ≡ totalsOf ms) × ((y : Totals) × (v ≡ marked.Totals y))
+
+  good-marked : (ms : List ℕ) (v : Marked) → watchMarked ms v ≡ watched.Totals x → Good ms v
+  good-marked ms (marked.Refused r) e = absurd (not-totals _ e)
+  good-marked ms (marked.Totals y) e = (cc, (y, refl))
+
+  good-range : (b : Bool) (r : WatchRefusal) (ms : List ℕ) (v : Marked) → pick b (watchMarked ms v) (watched.Refused r) ≡ watched.Totals x → Good ms v
+  good-range true r ms v e = good-marked ms v e
+  good-range false r ms v e = absurd (not-totals r e)
+
+  pub good : watch q t run n k size ≡ watched.Totals x → Good (watchedOf q t run n k) (mark.mark q t run size)
+  unfolding watch
+  good e = good-range (inRange n k) _ (watchedOf q t run n k) (mark.mark q t run size) e
+
+  -- ones + zeros is the number of instances
+  pub totals-sum : watch q t run n k size ≡ watched.Totals x → x .ones + x .zeros ≡ length (instancesOf run)
+  totals-sum e =
+      ap (λ (y : WatchTotals). y .ones + y .zeros) (good e .0)
+      ∙ from-sum n k (marksOf q t run) 0 (length (marksOf q t run))
+      ∙ marks-length q t run
+
+-- ---- the marks
+module _ (q t run : List ℕ) (n k : ℕ) (m : List ℕ) where
+  -- a refused call leaves every byte
+  pub refused-leaves : (r : WatchRefusal) → watch q t run n k (length m) ≡ watched.Refused r → marksAfter q t run n k m ≡ m
+  unfolding marksAfter
+  refused-leaves r e = ap (marksBy q t run n k m) e
+
+  module _ (x : WatchTotals) (served : watch q t run n k (length m) ≡ watched.Totals x) where
+    after : marksAfter q t run n k m ≡ watchedOf q t run n k ++ drop (length (instancesOf run)) m
+    unfolding marksAfter
+    after = ap (marksBy q t run n k m) served
+
+    as-many : length (watchedOf q t run n k) ≡ length (instancesOf run)
+    as-many = watched-length n k (marksOf q t run) ∙ marks-length q t run
+
+    -- the j-th mark is that of the window that ends there
+    pub watch-at : (j : ℕ) → j < length (instancesOf run) → getD (marksAfter q t run n k m) j 0 ≡ windowMark n k (take (j + 1) (marksOf q t run))
+    watch-at j h =
+        ap (λ (l : List ℕ). getD l j 0) after
+        ∙ List·getD-append (watchedOf q t run n k) (drop (length (instancesOf run)) m) 0 j (omega (arith, as-many))
+        ∙ watched-at n k (marksOf q t run) j (omega (arith, marks-length q t run))
+
+    -- "1 when at least k of the last n, up to and with it, are included"
+    pub watch-exactly : (j : ℕ) → j < length (instancesOf run) → (getD (marksAfter q t run n k m) j 0 ≡ 1) ↔ (k ≤ included n (take (j + 1) (marksOf q t run)))
+    watch-exactly j h =
+        let w = one-exactly n k (take (j + 1) (marksOf q t run)) in
+        (λ e. w .0 (sym (watch-at j h) ∙ e), λ l. watch-at j h ∙ w .1 l)
+
+    -- "bytes beyond keep their values"
+    pub watch-beyond : (i : ℕ) → length (instancesOf run) ≤ i → getD (marksAfter q t run n k m) i 0 ≡ getD m i 0
+    watch-beyond i h = ap (λ (l : List ℕ). getD l i 0) after ∙ beyond-kept (watchedOf q t run n k) m (length (instancesOf run)) i as-many h

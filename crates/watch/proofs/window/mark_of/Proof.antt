@@ -1,0 +1,13 @@
+use borrow.Author.Needs.{needs}
+use Rattle.watch.proofs.Counting as law
+use Rattle.watch.proofs.window.mark_of.Statement.{statement}
+use Rattle.watch.proofs.window.mark_of.Tie as tie
+
+cast-result : tie.Need-cast-result
+cast-result c = search needs
+
+returns : tie.Need-returns
+returns c = search law.as-number
+
+pub mark-of-spec : {M : Type 1} → statement M
+mark-of-spec = tie.close (tie.spec cast-result returns)
