@@ -1,4 +1,5 @@
--- What check and evaluate say of 01's starred examples, mark of runs, what the program prints, and which properties queries name, computed from their definitions.
+-- What check and evaluate say of 01's starred examples, mark and watch of runs, what the program prints, and which properties queries name, computed from their
+-- definitions.
 use mathlib.Core.Path.{_≡_, refl}
 use lib.Ieee.{ofInt, ofBits, mul, div, neg, round, lt, eq}
 use Rattle.base.specs.Vectors.{results, expected}
@@ -76,6 +77,8 @@ use Rattle.filter.specs.Refusal as filter-refusal
 use Rattle.run.specs.Run as run-run
 use Rattle.run.specs.Totals as run-totals
 use Rattle.mark.specs.Mark as mark-mark
+use Rattle.watch.specs.Window as watch-window
+use Rattle.watch.specs.Watch as watch-watch
 use Rattle.invariance.specs.NamedProperties as invariance-named-properties
 use Rattle.text_writer.specs.Decimal as text-writer-decimal
 use Rattle.report.specs.Line as report-line
@@ -83,6 +86,7 @@ use Rattle.report.specs.Text as report-text
 use Rattle.report.specs.Output as report-output
 use Rattle.examples.specs.Starred.{outcomes, starred}
 use Rattle.examples.specs.Marks.{outcome, calls}
+use Rattle.examples.specs.Watches as watches
 use Rattle.examples.specs.Printed.{printed, outputs}
 use Rattle.examples.specs.Namings.{named, namings}
 
@@ -92,6 +96,7 @@ every-one :
     × (results outcome calls ≡ expected calls)
     × (results printed outputs ≡ expected outputs)
     × (results named namings ≡ expected namings)
+    × (results watches.outcome watches.calls ≡ expected watches.calls)
 unfolding
     ofInt ofBits mul div neg round lt eq base-walk.walk
     base-digit.digitOf base-digit.allDigits base-digit.valueOf base-digit.sizeUnder
@@ -168,12 +173,14 @@ unfolding
     run-run.readingFrom run-run.runReading run-run.bodiesOf run-run.instancesOf
     run-totals.count
     mark-mark.mark mark-mark.marksAfter
+    watch-window.watchedFrom
+    watch-watch.watch watch-watch.marksAfter
     invariance-named-properties.namedBy invariance-named-properties.namedIn invariance-named-properties.without invariance-named-properties.distinct invariance-named-properties.namedProperties
     text-writer-decimal.digitsWithin text-writer-decimal.decimal
     report-line.spaced report-line.line report-line.refusedLine report-line.spacedTotals report-line.totalLine report-line.answerLines
     report-text.terminated report-text.text
     report-output.outputLines
-every-one = (refl, refl, refl, refl)
+every-one = (refl, refl, refl, refl, refl)
 
 pub starred-right : results outcomes starred ≡ expected starred
 starred-right = every-one .0
@@ -186,3 +193,6 @@ outputs-right = every-one .2
 
 pub namings-right : results named namings ≡ expected namings
 namings-right = every-one .3
+
+pub watches-right : results watches.outcome watches.calls ≡ expected watches.calls
+watches-right = every-one .4

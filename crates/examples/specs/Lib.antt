@@ -1,4 +1,5 @@
 pub mod Starred
 pub mod Marks
+pub mod Watches
 pub mod Printed
 pub mod Namings
