@@ -32,22 +32,22 @@ module _ (ms : List ℕ) (end window : ℕ) where
     size = length-take-le end ms room
 
     -- all that there are
-    pub counting-all : i < window → end ≤ i → ones ≡ included window (take end ms)
-    counting-all h l =
-        w .counts ∙ ap (count isOne) (last-all i (take end ms) (omega (arith, size)) ∙ sym (last-all window (take end ms) (omega (arith, size))))
+    pub counting-all : end ≤ i → ones ≡ included window (take end ms)
+    counting-all l =
+        w .counts ∙ ap (count isOne) (last-all i (take end ms) (omega (arith, size)) ∙ sym (last-all window (take end ms) (omega (arith, size, w .inside))))
 
     pub counting-ends : window ≤ i → ones ≡ included window (take end ms)
     counting-ends h = w .counts ∙ ap (λ (n : ℕ). included n (take end ms)) (let e : i ≡ window = omega (arith, w .inside) in e)
 
-    module _ (h : i < window) (l : i < end) {r : ℕ} (e : r ≡ one isOne (getD ms (end - (i + 1)) 0)) where
-      pub counting-fits : ones + r ≤ window
+    module _ (l : i < end) {r : ℕ} (e : r ≡ one isOne (getD ms (end - (i + 1)) 0)) where
+      pub counting-fits : ones + r ≤ end
       counting-fits = omega (arith, w .counts, included-few i (take end ms), one-small isOne (getD ms (end - (i + 1)) 0))
 
-      pub counting-next : Counting ms end window (ones + r) (i + 1)
-      counting-next =
+      pub counting-next : i < window → Counting ms end window (ones + r) (i + 1)
+      counting-next h =
           let f = included-more i (take end ms) (omega (arith, size)) in
           let g : getD (take end ms) (length (take end ms) - (i + 1)) 0 ≡ getD ms (end - (i + 1)) 0 =
-            ap (λ (n : ℕ). getD (take end ms) (n - (i + 1)) 0) size ∙ getD-take end ms (end - (i + 1)) 0 (omega arith) in
+          ap (λ (n : ℕ). getD (take end ms) (n - (i + 1)) 0) size ∙ getD-take end ms (end - (i + 1)) 0 (omega arith) in
           record { counts = omega (arith, w .counts, f, ap (one isOne) g); inside = omega arith }
 
 -- ---- moved_before

@@ -59,7 +59,7 @@ module _ (n : ℕ) (ms : List ℕ) (end : ℕ) (h : end < length ms) (g : 1 ≤ 
   pub moves-short : end < n → included n (take (end + 1) ms) ≡ included n (take end ms) + one isOne (getD ms end 0)
   moves-short l =
       let e : count isOne (drop (end + 1 - n) (take end ms)) ≡ count isOne (drop (end - n) (take end ms)) =
-        ap (λ (i : ℕ). count isOne (drop i (take end ms))) (let z : end + 1 - n ≡ end - n = omega arith in z) in
+      ap (λ (i : ℕ). count isOne (drop i (take end ms))) (let z : end + 1 - n ≡ end - n = omega arith in z) in
       omega (arith, ends-with, ends-before)
 
   -- the mark that stands n before comes in
@@ -69,5 +69,5 @@ module _ (n : ℕ) (ms : List ℕ) (end : ℕ) (h : end < length ms) (g : 1 ≤ 
       let f = count-from isOne p (end - n) 0 (omega (arith, before)) in
       let i : one isOne (getD p (end - n) 0) ≡ one isOne (getD ms (end - n) 0) = ap (one isOne) (getD-take end ms (end - n) 0 (omega arith)) in
       let e : count isOne (drop (end - n + 1) p) ≡ count isOne (drop (end + 1 - n) p) =
-        ap (λ (j : ℕ). count isOne (drop j p)) (let z : end - n + 1 ≡ end + 1 - n = omega arith in z) in
+      ap (λ (j : ℕ). count isOne (drop j p)) (let z : end - n + 1 ≡ end + 1 - n = omega arith in z) in
       omega (arith, ends-with, ends-before)

@@ -31,7 +31,7 @@ one-of-requires : tie.Need-one-of-requires Inv-loop μ-loop
 one-of-requires c κs = search needs
 
 add-ones : tie.Need-add-ones Inv-loop μ-loop
-add-ones c = let m = law.counting-fits _ _ _ _ _ (c .before .before .before .before .before .before .pre) (c .before .before .before .before .loop .inv) (c .before .before .before .loop-test .taken) (c .before .before .if1 .left) (c .one-of .ensures) in omega arith
+add-ones c = let m = law.counting-fits _ _ _ _ _ (c .before .before .before .before .before .before .pre) (c .before .before .before .before .loop .inv) (c .before .before .if1 .left) (c .one-of .ensures) in omega arith
 
 loop-less : tie.Need-loop-less Inv-loop μ-loop
 loop-less c = search needs
