@@ -23,6 +23,7 @@ pub mod refusal;
 pub mod syntax;
 pub mod token;
 pub mod value;
+pub mod watch;
 
 pub use check::check;
 pub use evaluate::{bound, evaluate, Answer, Prepared};
@@ -30,3 +31,4 @@ pub use fault_text::{fault_text, FaultText};
 pub use mark::{mark, Totals};
 pub use named::named_properties;
 pub use refusal::Refusal;
+pub use watch::{watch, WatchTotals};

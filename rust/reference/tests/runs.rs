@@ -1,8 +1,8 @@
-//! The second evaluator on runs, fault texts and the program's files with hand-written answers.
+//! The second evaluator on runs, watched runs, fault texts and the program's files with hand-written answers.
 
-use reference::examples::{fault_texts, programs, runs};
+use reference::examples::{fault_texts, programs, runs, watches};
 use reference::program::output;
-use reference::{fault_text, mark};
+use reference::{fault_text, mark, watch};
 
 #[test]
 fn marks_and_totals() {
@@ -10,6 +10,18 @@ fn marks_and_totals() {
         let mut marks = e.marks.clone();
         let found = mark(&e.query, &e.table, &e.run, &mut marks);
         assert_eq!((found, marks), (e.expected, e.left), "{}", e.query.escape_ascii());
+    }
+}
+
+#[test]
+fn marks_and_totals_of_a_watch() {
+    let examples = watches::examples();
+    println!("{} examples", examples.len());
+    for e in examples {
+        let mut marks = e.marks.clone();
+        let found = watch(&e.query, &e.table, &e.run, e.window, e.need, &mut marks);
+        let shown = || format!("{} at window {}, need {}", e.query.escape_ascii(), e.window, e.need);
+        assert_eq!((found, marks), (e.expected, e.left.clone()), "{}", shown());
     }
 }
 

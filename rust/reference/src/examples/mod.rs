@@ -18,6 +18,7 @@ pub mod runs;
 pub mod sample;
 pub mod setting;
 pub mod text;
+pub mod watches;
 pub mod widths;
 pub mod wrong_turns;
 

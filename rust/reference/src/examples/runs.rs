@@ -26,15 +26,15 @@ pub fn examples() -> Vec<RunExample> {
 }
 
 /// The sample, 95 bytes, is included by `On = TRUE`.
-fn on() -> Vec<u8> {
+pub(super) fn on() -> Vec<u8> {
     sample().instance()
 }
 
-fn off() -> Vec<u8> {
+pub(super) fn off() -> Vec<u8> {
     sample().with("On", truth(false)).instance()
 }
 
-fn run(bodies: &[Vec<u8>]) -> Vec<u8> {
+pub(super) fn run(bodies: &[Vec<u8>]) -> Vec<u8> {
     bodies.iter().flat_map(|body| write(INSTANCE, body)).collect()
 }
 
