@@ -4,9 +4,10 @@
    a sequence of instances; these three are made of records: a body length (2 bytes), a kind (2 bytes), the body; least
    byte first.
 
-   Every function takes bytes of any content and length and returns. It allocates nothing, keeps nothing, and writes
-   nowhere but into marks, so it may be called from any thread. Each slice is a pointer and a length in bytes. A pointer
-   may not be null, also where its length is 0, and marks may not overlap the other bytes of the call.
+   Every function takes bytes of any content and length, and numbers of any size, and returns. It allocates nothing,
+   keeps nothing, and writes nowhere but into marks, so it may be called from any thread. Each slice is a pointer and a
+   length in bytes. A pointer may not be null, also where its length is 0, and marks may not overlap the other bytes of
+   the call.
 
    Link with libfql_export.a, which `rt staticlib fql_export` writes into target/staticlib. */
 #ifndef FQL_H
@@ -53,6 +54,7 @@ enum fql_type {
 
 /* The numbers of refusals, in the order in which the causes are tried. Number 0 means that nothing is refused. */
 enum fql_cause {
+    FQL_WINDOW = 42,          /* fql_watch's window is not from 1 to 64, or its need not from 1 to the window */
     FQL_TABLE = 2,            /* the table is longer than 8,192 bytes, or a record is malformed or has a bad name */
     FQL_NAME_TWICE = 3,       /* the table has a property name twice */
     FQL_QUERY_LENGTH = 1,     /* the query is longer than 4,096 bytes */
@@ -71,7 +73,7 @@ enum fql_cause {
     FQL_MARKS_LENGTH = 41     /* there are fewer marks than instances in the run */
 };
 
-/* The marks of instances. */
+/* The marks that fql_mark writes. Those of fql_watch are 1 and 0. */
 enum fql_mark_byte {
     FQL_EXCLUDED = 0,
     FQL_INCLUDED = 1,
@@ -86,8 +88,8 @@ enum fql_source {
 };
 
 /* A refusal: its number, or 0, and its place, a byte offset into the table (2, 3), the query (1, 10 to 25), the
-   instance (31) or the run (40). The place is 0 where a whole is at fault, and the length of a text or of records where
-   something is missing at their end. */
+   instance (31) or the run (40). The place is 0 where a whole or a number (42) is at fault, and the length of a text or
+   of records where something is missing at their end. */
 typedef struct fql_refusal {
     uint64_t number;
     uint64_t place;
@@ -109,6 +111,14 @@ typedef struct fql_totals {
     uint64_t excluded;
     uint64_t failed;
 } fql_totals;
+
+/* Where number is 0, how many instances of the run are marked 1, and how many 0; otherwise both are 0. */
+typedef struct fql_watched {
+    uint64_t number;
+    uint64_t place;
+    uint64_t ones;
+    uint64_t zeros;
+} fql_watched;
 
 /* A part of the query or of the table: which of them, from which byte on, and how many bytes. All are 0 where there is
    none. */
@@ -133,6 +143,16 @@ fql_answer fql_evaluate(const uint8_t *query, size_t query_length, const uint8_t
    leaves all as they were. */
 fql_totals fql_mark(const uint8_t *query, size_t query_length, const uint8_t *table, size_t table_length,
                     const uint8_t *run, size_t run_length, uint8_t *marks, size_t marks_length);
+
+/* Writes 1 for an instance of the run if at least need of the last window instances, up to and with it, are included,
+   else 0: whether the filter has held for a while. Before so many have passed, those that there are count, so the marks
+   are 0 until need of them are included. An instance that fql_mark would mark FQL_FAILED takes its place among the last
+   and counts as not included; its own mark is 1 or 0 like any other. The window is from 1 to 64, and the need from 1 to
+   the window; all else is refused with FQL_WINDOW, whatever the other bytes are, and then a call is refused as fql_mark
+   refuses it. Marks beyond the run's instances keep their values, and a refused call leaves all as they were. */
+fql_watched fql_watch(const uint8_t *query, size_t query_length, const uint8_t *table, size_t table_length,
+                      const uint8_t *run, size_t run_length, uint64_t window, uint64_t need,
+                      uint8_t *marks, size_t marks_length);
 
 /* The part that a refusal is about, from its place on: of the table for 2 and 3, of the query for the other numbers
    from 1 to 25; nothing for any other number or for a place past the end. */

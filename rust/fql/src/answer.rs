@@ -30,6 +30,15 @@ pub struct Totals {
     pub failed: u64,
 }
 
+/// How many instances of a run got which mark of a watch.
+#[derive(Clone, Copy, Debug, PartialEq, Eq, Hash)]
+pub struct WatchTotals {
+    /// Marked with 1: enough of the last instances are included.
+    pub ones: u64,
+    /// Marked with 0.
+    pub zeros: u64,
+}
+
 /// The mark of an instance that the filter includes.
 pub const INCLUDED: u8 = 1;
 /// The mark of an instance that the filter excludes.

@@ -51,7 +51,7 @@ pub mod record;
 mod refusal;
 pub mod types;
 
-pub use answer::{Answer, FaultText, Totals, Verdict, EXCLUDED, FAILED, INCLUDED};
+pub use answer::{Answer, FaultText, Totals, Verdict, WatchTotals, EXCLUDED, FAILED, INCLUDED};
 pub use refusal::{Cause, Refusal};
 
 /// Whether the query can be evaluated on the instances of the table's class.
@@ -142,6 +142,61 @@ pub fn mark(query: &[u8], table: &[u8], run: &[u8], marks: &mut [u8]) -> Result<
     match Refusal::returned(found.number, found.place) {
         Some(refusal) => Err(refusal),
         None => Ok(Totals { included: found.included, excluded: found.excluded, failed: found.failed }),
+    }
+}
+
+/// Whether the query has held for a while: writes 1 for an instance of the run if at least `need` of the last `window`
+/// instances, up to and with it, are included, else 0.
+///
+/// Before so many have passed, those that there are count. An instance that doesn't conform to the table takes its place
+/// among the last and counts as not included; its own mark is 1 or 0 like any other. The window is from 1 to 64 and the
+/// need from 1 to the window, or the call is refused with [`Cause::Window`], whatever the bytes are; then it is refused
+/// as [`mark`] is. Marks beyond the run's instances keep their values, and a refused call leaves all as they were.
+///
+/// ```
+/// use fql::{record, types, Cause, Refusal, WatchTotals};
+///
+/// let table = [record::write(record::CLASS, b"Fan"), record::write(types::SINT16, b"Temp")].concat();
+/// let reading = |temp: i16| record::write(types::SINT16, &temp.to_le_bytes());
+/// // One that is too hot, and later two, with one between them that can't be read.
+/// let readings = [reading(60), reading(95), reading(61), reading(62), reading(97), vec![], reading(96), reading(63)];
+/// let run = readings.map(|body| record::write(record::INSTANCE, &body)).concat();
+///
+/// // The alarm is for two of the last three.
+/// let mut alarms = [7; 9];
+/// let totals = fql::watch(b"Temp > 90", &table, &run, 3, 2, &mut alarms);
+/// assert_eq!(totals, Ok(WatchTotals { ones: 1, zeros: 7 }));
+/// assert_eq!(alarms, [0, 0, 0, 0, 0, 0, 1, 0, 7]);
+///
+/// let refused = fql::watch(b"Temp > 90", &table, &run, 3, 4, &mut alarms);
+/// assert_eq!(refused, Err(Refusal { cause: Cause::Window, place: 0 }));
+/// ```
+pub fn watch(
+    query: &[u8],
+    table: &[u8],
+    run: &[u8],
+    window: u64,
+    need: u64,
+    marks: &mut [u8],
+) -> Result<WatchTotals, Refusal> {
+    // SAFETY: as for `mark`.
+    let found = unsafe {
+        raw::fql_watch(
+            query.as_ptr(),
+            query.len(),
+            table.as_ptr(),
+            table.len(),
+            run.as_ptr(),
+            run.len(),
+            window,
+            need,
+            marks.as_mut_ptr(),
+            marks.len(),
+        )
+    };
+    match Refusal::returned(found.number, found.place) {
+        Some(refusal) => Err(refusal),
+        None => Ok(WatchTotals { ones: found.ones, zeros: found.zeros }),
     }
 }
 

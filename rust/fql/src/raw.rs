@@ -25,6 +25,14 @@ pub struct FqlTotals {
 }
 
 #[repr(C)]
+pub struct FqlWatched {
+    pub number: u64,
+    pub place: u64,
+    pub ones: u64,
+    pub zeros: u64,
+}
+
+#[repr(C)]
 pub struct FqlPart {
     pub source: u64,
     pub start: u64,
@@ -54,6 +62,19 @@ extern "C" {
         marks: *mut u8,
         marks_length: usize,
     ) -> FqlTotals;
+
+    pub fn fql_watch(
+        query: *const u8,
+        query_length: usize,
+        table: *const u8,
+        table_length: usize,
+        run: *const u8,
+        run_length: usize,
+        window: u64,
+        need: u64,
+        marks: *mut u8,
+        marks_length: usize,
+    ) -> FqlWatched;
 
     pub fn fql_fault_text(
         query: *const u8,

@@ -3,11 +3,13 @@
 use std::error::Error;
 use std::fmt;
 
-/// Why a call is refused. The discriminants are the numbers of the engine's scope document, and the variants stand in
+/// Why a call is refused. The discriminants are the numbers of the engine's documents, and the variants stand in
 /// the order in which the causes are tried.
 #[derive(Clone, Copy, Debug, PartialEq, Eq, Hash)]
 #[repr(u64)]
 pub enum Cause {
+    /// The window of a [`watch`](crate::watch) is not from 1 to 64, or its need not from 1 to the window.
+    Window = 42,
     /// The table is longer than 8,192 bytes, or a record of it is malformed or has a bad name.
     Table = 2,
     /// The table has a property name twice.
@@ -44,7 +46,8 @@ pub enum Cause {
 
 impl Cause {
     /// All causes, in the order in which they are tried.
-    pub const ALL: [Cause; 16] = [
+    pub const ALL: [Cause; 17] = [
+        Cause::Window,
         Cause::Table,
         Cause::NameTwice,
         Cause::QueryLength,
@@ -83,6 +86,7 @@ impl Cause {
     /// The cause in words, as they fit behind a place.
     pub fn words(self) -> &'static str {
         match self {
+            Cause::Window => "the window is not from 1 to 64, or the need not from 1 to the window",
             Cause::Table => "the table is longer than 8,192 bytes, or its record here is malformed or has a bad name",
             Cause::NameTwice => "the table has this property name for the second time",
             Cause::QueryLength => "the query is longer than 4,096 bytes",
@@ -116,7 +120,8 @@ pub struct Refusal {
     pub cause: Cause,
     /// The offset in bytes of what is at fault: in the table for [`Cause::Table`] and [`Cause::NameTwice`], in the
     /// instance for [`Cause::Instance`], in the run for [`Cause::Run`], in the query otherwise. It is 0 where a whole
-    /// is at fault, and the length of a text or of records where something is missing at their end.
+    /// is at fault, or a number ([`Cause::Window`]), and the length of a text or of records where something is missing
+    /// at their end.
     pub place: u64,
 }
 
@@ -148,9 +153,9 @@ mod tests {
     use super::*;
 
     #[test]
-    fn causes_have_their_numbers_in_the_order_of_the_scope_document() {
+    fn causes_have_their_numbers_in_the_order_in_which_they_are_tried() {
         let numbers = Cause::ALL.map(Cause::number);
-        assert_eq!(numbers, [2, 3, 1, 10, 11, 12, 20, 22, 21, 23, 24, 25, 30, 31, 40, 41]);
+        assert_eq!(numbers, [42, 2, 3, 1, 10, 11, 12, 20, 22, 21, 23, 24, 25, 30, 31, 40, 41]);
     }
 
     #[test]
@@ -162,7 +167,7 @@ mod tests {
 
     #[test]
     fn numbers_of_no_cause() {
-        for number in [0, 4, 9, 13, 19, 26, 29, 32, 39, 42, 258, u64::MAX] {
+        for number in [0, 4, 9, 13, 19, 26, 29, 32, 39, 43, 258, u64::MAX] {
             assert_eq!(Cause::from_number(number), None);
         }
     }

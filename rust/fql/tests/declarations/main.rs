@@ -30,16 +30,17 @@ fn the_wrapper_declares_what_the_source_does() {
 }
 
 #[test]
-fn there_are_four_functions_and_four_structs() {
+fn there_are_five_functions_and_five_structs() {
     let source = of_rattle(SOURCE).unwrap();
     let names = |text: &str| text.split(' ').map(str::to_owned).collect::<Vec<_>>();
     let functions: Vec<String> = source.functions.iter().map(|f| f.0.clone()).collect();
-    assert_eq!(functions, names("fql_check fql_evaluate fql_mark fql_fault_text"));
+    assert_eq!(functions, names("fql_check fql_evaluate fql_mark fql_watch fql_fault_text"));
     let structs: Vec<String> = source.structs.iter().map(|s| s.0.clone()).collect();
-    assert_eq!(structs, names("FqlRefusal FqlAnswer FqlTotals FqlPart"));
-    let parameters: Vec<&str> = source.functions[2].1.iter().map(|p| p.0.as_str()).collect();
-    let expected = ["query", "query_length", "table", "table_length", "run", "run_length", "marks", "marks_length"];
-    assert_eq!(parameters, expected);
+    assert_eq!(structs, names("FqlRefusal FqlAnswer FqlTotals FqlWatched FqlPart"));
+    let parameters = |n: usize| source.functions[n].1.iter().map(|p| p.0.clone()).collect::<Vec<_>>();
+    let of_mark = "query query_length table table_length run run_length marks marks_length";
+    assert_eq!(parameters(2), names(of_mark));
+    assert_eq!(parameters(3), names(&of_mark.replace("marks marks_length", "window need marks marks_length")));
 }
 
 fn edited(text: &str, old: &str, new: &str) -> String {
@@ -55,6 +56,7 @@ fn a_changed_header_is_noticed() {
         ("uint64_t steps;", "int64_t steps;"),
         ("    uint64_t steps;\n", ""),
         ("uint64_t failed;", "uint64_t failed;\n    uint64_t more;"),
+        ("uint64_t ones;\n    uint64_t zeros;", "uint64_t zeros;\n    uint64_t ones;"),
         ("} fql_part;", "} fql_piece;"),
         ("fql_refusal fql_check(const uint8_t *query", "fql_refusal fql_check(uint8_t *query"),
         ("uint8_t *marks", "const uint8_t *marks"),
@@ -62,6 +64,9 @@ fn a_changed_header_is_noticed() {
         ("const uint8_t *run, size_t run_length", "size_t run_length, const uint8_t *run"),
         ("fql_answer fql_evaluate(", "fql_refusal fql_evaluate("),
         ("fql_totals fql_mark(", "fql_totals fql_marks("),
+        ("fql_watched fql_watch(", "fql_answer fql_watch("),
+        ("uint64_t window, uint64_t need,", "uint64_t need, uint64_t window,"),
+        ("uint64_t window, uint64_t need,", "size_t window, size_t need,"),
         ("uint64_t number, uint64_t place);", "uint64_t place, uint64_t number);"),
         ("uint64_t number, uint64_t place);", "uint64_t number);"),
         ("uint64_t number, uint64_t place);", "uint64_t number, uint64_t place);\nfql_part fql_more(uint64_t number);"),
@@ -79,6 +84,9 @@ fn a_changed_wrapper_is_noticed() {
         ("marks: *mut u8", "marks: *const u8"),
         ("instance_length: usize", "instance_length: u64"),
         ("-> FqlTotals", "-> FqlAnswer"),
+        ("-> FqlWatched", "-> FqlAnswer"),
+        ("window: u64", "window: usize"),
+        ("pub ones: u64,\n    pub zeros: u64,", "pub zeros: u64,\n    pub ones: u64,"),
         ("pub fn fql_check", "pub fn fql_checks"),
     ] {
         assert!(compare(SOURCE, of_rust(&edited(RUST, old, new))).is_err(), "{old}\n{new}");
@@ -91,6 +99,7 @@ fn a_changed_source_is_noticed() {
         ("pub extern \"C\" fn fql_check<'a>(query: &'a [u8]", "pub extern \"C\" fn fql_check<'a>(text: &'a [u8]"),
         ("marks: &mut [u8]", "marks: &'a [u8]"),
         ("pub length: u64", "pub length: u32"),
+        ("window: u64,\n    need: u64", "need: u64,\n    window: u64"),
         ("#[repr(C)]\npub struct FqlPart", "pub struct FqlPart"),
     ] {
         let source = edited(SOURCE, old, new);
@@ -155,6 +164,15 @@ fn the_header_s_numbers_are_those_of_the_wrapper() {
     assert_eq!(sorted(constants(HEADER)), sorted(numbers()));
 }
 
+/// Both list the causes in the order in which they are tried.
+#[test]
+fn the_header_s_causes_are_in_the_wrapper_s_order() {
+    let causes = Cause::ALL.map(constant_of);
+    let names: Vec<String> = constants(HEADER).into_iter().map(|(name, _)| name).collect();
+    let listed: Vec<&String> = names.iter().filter(|name| causes.contains(name)).collect();
+    assert_eq!(listed, causes.iter().collect::<Vec<_>>());
+}
+
 #[test]
 fn a_changed_number_is_noticed() {
     for (old, new) in [
@@ -165,6 +183,7 @@ fn a_changed_number_is_noticed() {
         ("FQL_RECORD_CLASS = 0x0200", "FQL_RECORD_CLASS = 0x0300"),
         ("FQL_FAILED = 255", "FQL_FAILED = 2"),
         ("FQL_RUN = 40", "FQL_RUN = 41"),
+        ("FQL_WINDOW = 42", "FQL_WINDOW = 43"),
     ] {
         assert_ne!(sorted(constants(&edited(HEADER, old, new))), sorted(numbers()), "{new}");
     }
