@@ -8,7 +8,7 @@ pub mod pairs;
 use std::fmt::Debug;
 
 use reference::cases::call;
-use reference::{Answer, FaultText, Refusal, Totals};
+use reference::{Answer, FaultText, Refusal, Totals, WatchTotals};
 
 /// Verdict and steps, or number and place.
 pub type Found = Result<Answer, Refusal>;
@@ -44,6 +44,23 @@ pub fn agree_on_marks(query: &[u8], table: &[u8], run: &[u8], marks: &[u8]) -> (
     let totals = fql::mark(query, table, run, &mut found).map(totals).map_err(refusal);
     let expected_totals = reference::mark(query, table, run, &mut expected);
     same((totals, found), (expected_totals, expected), || call("agree_on_marks", &[query, table, run, marks]))
+}
+
+/// What both say of a watch over a run, and the marks that both leave behind.
+pub fn agree_on_watch(
+    query: &[u8],
+    table: &[u8],
+    run: &[u8],
+    window: u64,
+    need: u64,
+    marks: &[u8],
+) -> (Result<WatchTotals, Refusal>, Vec<u8>) {
+    let (mut found, mut expected) = (marks.to_vec(), marks.to_vec());
+    let totals = fql::watch(query, table, run, window, need, &mut found);
+    let totals = totals.map(|t| WatchTotals { ones: t.ones, zeros: t.zeros }).map_err(refusal);
+    let expected_totals = reference::watch(query, table, run, window, need, &mut expected);
+    let shown = || format!("{need} of {window}: {}", call("agree_on_watch", &[query, table, run, marks]));
+    same((totals, found), (expected_totals, expected), shown)
 }
 
 /// The text at a fault as both show it.

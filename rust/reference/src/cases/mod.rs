@@ -16,6 +16,7 @@ pub mod spread;
 mod table;
 mod tokens;
 mod value;
+pub mod watch;
 pub mod widened;
 mod wrong;
 

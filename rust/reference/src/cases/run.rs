@@ -25,11 +25,12 @@ fn body(r: &mut Random, source: &Source) -> Vec<u8> {
     }
 }
 
-/// So many instances as records, sometimes with a record of another kind in front of one, or with other damage.
+/// So many instances as records, sometimes with a record of another kind in front of one, or with other damage; also
+/// most long runs have none.
 fn run(r: &mut Random, source: &Source, instances: usize) -> Vec<u8> {
     let mut out = Vec::new();
     for _ in 0..instances {
-        if r.chance(60) {
+        if r.chance(60.max(8 * instances)) {
             let kind = r.pick(&[NULL, BOOLEAN, 0x0003, CLASS, 0x0301, 0x1300, 0xffff]);
             out.extend(write(kind, b"x"));
         }
@@ -52,6 +53,11 @@ fn marks(r: &mut Random, instances: usize) -> Vec<u8> {
 }
 
 pub fn random(r: &mut Random) -> RunCase {
+    with_instances(r, |r| if r.chance(100) { 250 + r.below(20) } else { r.below(7) })
+}
+
+/// Runs of so many instances, before any damage.
+pub fn with_instances(r: &mut Random, count: impl Fn(&mut Random) -> usize) -> RunCase {
     let source = Source::random(r);
     let mut query = comparison::query(r, &source);
     let mut table = source.table.write();
@@ -60,7 +66,7 @@ pub fn random(r: &mut Random) -> RunCase {
         1 => table = r.damage(&table),
         _ => {}
     }
-    let instances = if r.chance(100) { 250 + r.below(20) } else { r.below(7) };
+    let instances = count(r);
     let run = run(r, &source, instances);
     let marks = marks(r, instances);
     RunCase { query, table, run, marks }

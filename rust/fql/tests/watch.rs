@@ -1,0 +1,226 @@
+//! A watch on the engine and on the second evaluator: runs with hand-written marks and totals, and random ones.
+
+mod common;
+
+use std::collections::BTreeMap;
+
+use common::often::assert_often;
+use common::{agree_on_marks, agree_on_watch};
+use reference::cases::call;
+use reference::cases::watch::{random, WatchCase};
+use reference::examples::watches;
+use reference::random::{for_each_seed, Random};
+use reference::{Refusal, WatchTotals};
+
+const CASES: usize = 5_000;
+const LONGEST_WINDOW: u64 = 64;
+
+type Watched = (Result<WatchTotals, Refusal>, Vec<u8>);
+
+/// The case with these window, need and marks.
+fn watch(case: &WatchCase, [window, need]: [u64; 2], marks: &[u8]) -> Watched {
+    agree_on_watch(&case.query, &case.table, &case.run, window, need, marks)
+}
+
+/// What mark says of the same run, and the marks that it leaves.
+fn plain(case: &WatchCase) -> (Result<reference::Totals, Refusal>, Vec<u8>) {
+    agree_on_marks(&case.query, &case.table, &case.run, &case.marks)
+}
+
+fn shown(case: &WatchCase) -> String {
+    let slices = [&case.query[..], &case.table, &case.run, &case.marks];
+    format!("{} of {}: {}", case.need, case.window, call("agree_on_watch", &slices))
+}
+
+#[test]
+fn of_the_examples() {
+    for e in watches::examples() {
+        let found = agree_on_watch(&e.query, &e.table, &e.run, e.window, e.need, &e.marks);
+        let shown = || call("agree_on_watch", &[&e.query, &e.table, &e.run, &e.marks]);
+        assert_eq!(found, (e.expected, e.left.clone()), "{} of {}: {}", e.need, e.window, shown());
+    }
+}
+
+/// Old marks have no part in the result.
+#[test]
+fn of_any_old_contents() {
+    for e in watches::examples() {
+        let watch = |marks: &[u8]| agree_on_watch(&e.query, &e.table, &e.run, e.window, e.need, marks);
+        let Ok(totals) = e.expected else { continue };
+        let instances = (totals.ones + totals.zeros) as usize;
+        for byte in [0, 1, 255] {
+            let (found, marks) = watch(&vec![byte; e.marks.len()]);
+            assert_eq!((found, &marks[..instances]), (e.expected, &e.left[..instances]));
+        }
+    }
+}
+
+/// What came up, so that the test can't pass by trying nothing.
+#[derive(Debug, Default)]
+struct Seen {
+    ones: usize,
+    zeros: usize,
+    /// An instance that fails is marked 1.
+    ones_of_failed: usize,
+    /// An included instance is marked 0, an excluded one 1.
+    zeros_of_included: usize,
+    ones_of_excluded: usize,
+    /// The window has more instances than the run.
+    longer_windows: usize,
+    /// The run has more than the longest window.
+    long_runs: usize,
+    /// The run has more than the window, and one fails.
+    passed_with_failed: usize,
+    marks_beyond: usize,
+    /// 42 where mark isn't refused, and where it is with 2.
+    refused_of_good_calls: usize,
+    refused_of_bad_tables: usize,
+    /// By number.
+    refused: BTreeMap<u64, usize>,
+}
+
+impl Seen {
+    fn add_marks(&mut self, case: &WatchCase, marks: &[u8], plain: &[u8]) {
+        let of = |mark: u8, of: u8| marks.iter().zip(plain).filter(|pair| *pair == (&mark, &of)).count();
+        self.ones += marks.iter().filter(|mark| **mark == 1).count();
+        self.zeros += marks.iter().filter(|mark| **mark == 0).count();
+        self.ones_of_failed += of(1, fql::FAILED);
+        self.zeros_of_included += of(0, fql::INCLUDED);
+        self.ones_of_excluded += of(1, fql::EXCLUDED);
+        let instances = marks.len() as u64;
+        self.longer_windows += usize::from(case.window > instances);
+        self.long_runs += usize::from(instances > LONGEST_WINDOW);
+        self.passed_with_failed += usize::from(instances > case.window && plain.contains(&fql::FAILED));
+        self.marks_beyond += usize::from(case.marks.len() > marks.len());
+    }
+
+    fn add_refusal(&mut self, case: &WatchCase, refusal: Refusal) {
+        *self.refused.entry(refusal.number).or_default() += 1;
+        if refusal.number == 42 {
+            let of_mark = plain(case).0;
+            self.refused_of_good_calls += usize::from(of_mark.is_ok());
+            self.refused_of_bad_tables += usize::from(of_mark.is_err_and(|refusal| refusal.number == 2));
+        }
+    }
+
+    fn assert_often(&self) {
+        println!("{self:?}");
+        assert_often(&[
+            ("ones", self.ones, 60_000),
+            ("zeros", self.zeros, 60_000),
+            ("a failed instance marked 1", self.ones_of_failed, 8_000),
+            ("an included instance marked 0", self.zeros_of_included, 15_000),
+            ("an excluded instance marked 1", self.ones_of_excluded, 15_000),
+            ("windows longer than the run", self.longer_windows, 300),
+            ("runs longer than the longest window", self.long_runs, 1_200),
+            ("runs longer than the window, with failed instances", self.passed_with_failed, 1_500),
+            ("marks beyond", self.marks_beyond, 1_000),
+            ("42 of a call that is good otherwise", self.refused_of_good_calls, 300),
+            ("42 of a call with a bad table", self.refused_of_bad_tables, 15),
+        ]);
+        for number in [2, 11, 40, 41] {
+            let count = self.refused.get(&number).copied().unwrap_or(0);
+            assert_often(&[(&format!("refused {number}"), count, 60)]);
+        }
+    }
+}
+
+/// Marks of a call that isn't refused: one for each instance, 0 or 1, as many as the totals say, whatever stood there.
+fn hold(case: &WatchCase, totals: WatchTotals, marks: &[u8]) -> usize {
+    let instances = reference::mark::instances(&case.run).unwrap().len();
+    assert_eq!(totals.ones + totals.zeros, instances as u64, "{}", shown(case));
+    let (own, beyond) = marks.split_at(instances);
+    assert!(own.iter().all(|mark| *mark <= 1), "{}", shown(case));
+    assert_eq!(own.iter().map(|mark| u64::from(*mark)).sum::<u64>(), totals.ones, "{}", shown(case));
+    assert_eq!(beyond, &case.marks[instances..], "{}", shown(case));
+    let inverted: Vec<u8> = case.marks.iter().map(|mark| !mark).collect();
+    let (again, others) = watch(case, [case.window, case.need], &inverted);
+    assert_eq!((again, &others[..instances]), (Ok(totals), own), "{}", shown(case));
+    instances
+}
+
+/// 42 exactly if window or need is out of its range, and otherwise what mark is refused with.
+fn hold_refusal(case: &WatchCase, refusal: Refusal, marks: &[u8]) {
+    assert_eq!(marks, case.marks, "{}", shown(case));
+    let in_range = (1..=LONGEST_WINDOW).contains(&case.window) && (1..=case.window).contains(&case.need);
+    match in_range {
+        false => assert_eq!(refusal, Refusal { number: 42, place: 0 }, "{}", shown(case)),
+        true => assert_eq!(Some(refusal), plain(case).0.err(), "{}", shown(case)),
+    }
+}
+
+fn run(r: &mut Random) {
+    let mut seen = Seen::default();
+    for _ in 0..CASES {
+        let case = random(r);
+        match watch(&case, [case.window, case.need], &case.marks) {
+            (Ok(totals), marks) => {
+                let instances = hold(&case, totals, &marks);
+                seen.add_marks(&case, &marks[..instances], &plain(&case).1[..instances]);
+            }
+            (Err(refusal), marks) => {
+                hold_refusal(&case, refusal, &marks);
+                seen.add_refusal(&case, refusal);
+            }
+        }
+    }
+    seen.assert_often();
+}
+
+#[test]
+fn of_random_runs() {
+    for_each_seed(run);
+}
+
+/// A run that is longer than all windows, and of which some instances are included and some fail.
+fn long_run(r: &mut Random) -> WatchCase {
+    loop {
+        let case = random(r);
+        let totals = plain(&case).0.unwrap_or_default();
+        let counts = [totals.included, totals.excluded, totals.failed];
+        if counts.iter().sum::<u64>() > LONGEST_WINDOW && counts.iter().all(|count| *count > 10) {
+            return case;
+        }
+    }
+}
+
+/// Each window with each of its needs, and the numbers beside both.
+#[test]
+fn every_window_and_need() {
+    for_each_seed(|r| {
+        let case = long_run(r);
+        for window in 0..=LONGEST_WINDOW + 1 {
+            for need in 0..=window + 1 {
+                let case = WatchCase { window, need, ..case.clone() };
+                match watch(&case, [window, need], &case.marks) {
+                    (Ok(totals), marks) => assert!(hold(&case, totals, &marks) > LONGEST_WINDOW as usize),
+                    (Err(refusal), marks) => hold_refusal(&case, refusal, &marks),
+                }
+            }
+        }
+    });
+}
+
+/// With a window of 1 the marks are the plain ones, 0 in place of 255.
+fn window_of_one(r: &mut Random) {
+    let mut failed = 0;
+    for _ in 0..CASES / 8 {
+        let case = random(r);
+        let (found, marks) = watch(&case, [1, 1], &case.marks);
+        let (totals, mut expected) = plain(&case);
+        if let Ok(totals) = totals {
+            let instances = (totals.included + totals.excluded + totals.failed) as usize;
+            expected[..instances].iter_mut().filter(|mark| **mark == fql::FAILED).for_each(|mark| *mark = 0);
+            failed += totals.failed;
+        }
+        let totals = totals.map(|t| WatchTotals { ones: t.included, zeros: t.excluded + t.failed });
+        assert_eq!((found, marks), (totals, expected), "{}", shown(&case));
+    }
+    println!("{failed} failed");
+    assert_often(&[("failed", failed as usize, 1_000)]);
+}
+
+#[test]
+fn a_window_of_one_gives_the_plain_marks() {
+    for_each_seed(window_of_one);
+}
