@@ -54,6 +54,21 @@ static void mark(const char *filter, const buffer *table, const buffer *run) {
     printf("  %d included, %d excluded, %d failed\n", (int)totals.included, (int)totals.excluded, (int)totals.failed);
 }
 
+/* Tells where a filter has held for a while: one instance alone calls nobody, two of the last three do. */
+static void watch(const char *filter, const buffer *table, const buffer *run) {
+    uint8_t marks[8] = {0};
+    fql_watched watched = fql_watch(bytes_of(filter), strlen(filter), table->bytes, table->length,
+                                    run->bytes, run->length, 3, 2, marks, sizeof marks);
+    if (watched.number != 0) {
+        printf("  refused %d at %d\n", (int)watched.number, (int)watched.place);
+        return;
+    }
+    for (uint64_t n = 0; n < watched.ones + watched.zeros; n++) {
+        if (marks[n] == 1) printf("  instance %d: at least two of the last three included\n", (int)n + 1);
+    }
+    printf("  %d ones, %d zeros\n", (int)watched.ones, (int)watched.zeros);
+}
+
 int main(void) {
     buffer table = sample_table(), instance = sample_instance(1), run = sample_run();
     const char *filters[] = {
@@ -66,6 +81,7 @@ int main(void) {
         if (accept(filters[n], &table)) {
             ask(filters[n], &table, &instance);
             mark(filters[n], &table, &run);
+            watch(filters[n], &table, &run);
         }
     }
     return 0;

@@ -1,4 +1,4 @@
-/* The four functions as a C program calls them. */
+/* The five functions as a C program calls them. */
 #include <stdio.h>
 #include <stdlib.h>
 #include <string.h>
@@ -31,6 +31,13 @@ static fql_answer evaluate(const char *query, const buffer *table, const buffer 
 static fql_totals mark(const char *query, const buffer *table, const buffer *run, uint8_t *marks, size_t marks_length) {
     return fql_mark((const uint8_t *)query, strlen(query), table->bytes, table->length,
                     run->bytes, run->length, marks, marks_length);
+}
+
+/* The length of marks is that of those lent; bytes behind it are the test's own. */
+static fql_watched watch(const char *query, const buffer *table, const buffer *run, uint64_t window, uint64_t need,
+                         buffer *marks) {
+    return fql_watch((const uint8_t *)query, strlen(query), table->bytes, table->length,
+                     run->bytes, run->length, window, need, marks->bytes, marks->length);
 }
 
 static int is_refusal(fql_refusal found, uint64_t number, uint64_t place) {
@@ -238,6 +245,121 @@ static void marks_of_a_refused_call(void) {
     EXPECT(is_unmarked(mark("On = TRUE", &table, &run, marks, 0), FQL_MARKS_LENGTH, 0, marks, 4));
 }
 
+static int is_watched(fql_watched found, uint64_t ones, uint64_t zeros) {
+    return found.number == 0 && found.place == 0 && found.ones == ones && found.zeros == zeros;
+}
+
+/* So many marks of 7, and more of them behind those. */
+static buffer sevens(size_t length) {
+    buffer marks = {{0}, length};
+    memset(marks.bytes, 7, sizeof marks.bytes);
+    return marks;
+}
+
+/* Each mark is 1, 0 or, where it is left alone, 7; all behind them are left alone. */
+static int are_marks(const buffer *marks, const char *expected) {
+    int same = 1;
+    for (size_t n = 0; n < sizeof marks->bytes; n++) {
+        same = same && marks->bytes[n] == (n < strlen(expected) ? expected[n] - '0' : 7);
+    }
+    return same;
+}
+
+/* The plain marks of the sample's run are 1, 0 and 255; of the longer run 1, 0, 1, 1, 255 and 0. */
+static void watched_runs(void) {
+    buffer table = sample_table(), run = sample_run(), longer = {{0}, 0}, none = {{0}, 0};
+    buffer on = sample_instance(1), off = sample_instance(0);
+    for (const char *plain = "1011x0"; *plain != 0; plain++) {
+        const buffer *body = *plain == '1' ? &on : *plain == '0' ? &off : &none;
+        put_record(&longer, FQL_RECORD_INSTANCE, body->bytes, body->length);
+    }
+    const struct {
+        const buffer *run;
+        uint64_t window, need, ones, zeros;
+        const char *marks;
+    } watched[] = {
+        {&run, 1, 1, 1, 2, "100"},
+        {&run, 2, 1, 2, 1, "110"},
+        {&run, 3, 1, 3, 0, "111"},
+        {&run, 3, 2, 0, 3, "000"},
+        {&run, 64, 1, 3, 0, "111"},
+        {&run, 64, 64, 0, 3, "000"},
+        {&longer, 1, 1, 3, 3, "101100"},
+        {&longer, 2, 2, 1, 5, "000100"},
+        {&longer, 3, 2, 3, 3, "001110"},
+        {&longer, 4, 3, 1, 5, "000100"},
+        {&longer, 64, 3, 3, 3, "000111"},
+        {&none, 64, 64, 0, 0, ""},
+    };
+    for (size_t n = 0; n < sizeof watched / sizeof watched[0]; n++) {
+        for (size_t more = 0; more <= 2; more++) {
+            buffer marks = sevens(strlen(watched[n].marks) + more);
+            fql_watched found = watch("On = TRUE", &table, watched[n].run, watched[n].window, watched[n].need, &marks);
+            EXPECT(is_watched(found, watched[n].ones, watched[n].zeros));
+            EXPECT(are_marks(&marks, watched[n].marks));
+        }
+    }
+}
+
+/* The first of 100 instances is included. Marks on the heap, so that a write past them is seen by a memory checker. */
+static void watched_until_the_window_has_passed(void) {
+    buffer table = table_of(FQL_TYPE_BOOLEAN), run = {{0}, 0}, on = {{0}, 0}, off = {{0}, 0};
+    put_record(&on, FQL_TYPE_BOOLEAN, "\1", 1);
+    put_record(&off, FQL_TYPE_BOOLEAN, "\0", 1);
+    for (int n = 0; n < 100; n++) put_record(&run, FQL_RECORD_INSTANCE, n == 0 ? on.bytes : off.bytes, on.length);
+    uint8_t *marks = malloc(100);
+    EXPECT(marks != NULL);
+    for (uint64_t window = 1; window <= 64; window++) {
+        fql_watched found = fql_watch((const uint8_t *)"X = TRUE", 8, table.bytes, table.length,
+                                      run.bytes, run.length, window, 1, marks, 100);
+        EXPECT(is_watched(found, window, 100 - window));
+        int same = 1;
+        for (uint64_t n = 0; n < 100; n++) same = same && marks[n] == (n < window);
+        EXPECT(same);
+    }
+    free(marks);
+}
+
+static int is_unwatched(fql_watched found, uint64_t number, uint64_t place, const buffer *marks) {
+    int same = found.number == number && found.place == place && found.ones == 0 && found.zeros == 0;
+    return same && are_marks(marks, "");
+}
+
+/* Each window and need out of range is refused first; with those in range the call is refused as mark is. */
+static void watches_of_a_refused_call(void) {
+    buffer table = sample_table(), run = sample_run(), broken = run, empty = {{0}, 0};
+    broken.length -= 1;
+    const struct {
+        const char *query;
+        const buffer *table, *run;
+        size_t marks;
+        uint64_t number, place;
+    } calls[] = {
+        {"On = TRUE", &table, &run, 4, 0, 0},
+        {"On = TRUE", &empty, &run, 4, FQL_TABLE, 0},
+        {"On = TRUE AND", &table, &run, 4, FQL_GRAMMAR, 13},
+        {"On = TRUE", &table, &broken, 4, FQL_RUN, 198},
+        {"On = TRUE", &table, &run, 2, FQL_MARKS_LENGTH, 0},
+        {"On = TRUE", &table, &run, 0, FQL_MARKS_LENGTH, 0},
+    };
+    const uint64_t out_of_range[][2] = {
+        {0, 0}, {0, 1}, {0, 5}, {65, 1}, {65, 65}, {UINT64_MAX, 1}, {(UINT64_C(1) << 32) | 3, 2},
+        {1, 0}, {64, 0}, {1, 2}, {3, 4}, {64, 65}, {64, UINT64_MAX}, {64, (UINT64_C(1) << 32) | 2},
+    };
+    for (size_t n = 0; n < sizeof calls / sizeof calls[0]; n++) {
+        for (size_t k = 0; k < sizeof out_of_range / sizeof out_of_range[0]; k++) {
+            buffer marks = sevens(calls[n].marks);
+            uint64_t window = out_of_range[k][0], need = out_of_range[k][1];
+            fql_watched found = watch(calls[n].query, calls[n].table, calls[n].run, window, need, &marks);
+            EXPECT(is_unwatched(found, FQL_WINDOW, 0, &marks));
+        }
+        if (calls[n].number == 0) continue;
+        buffer marks = sevens(calls[n].marks);
+        fql_watched found = watch(calls[n].query, calls[n].table, calls[n].run, 3, 2, &marks);
+        EXPECT(is_unwatched(found, calls[n].number, calls[n].place, &marks));
+    }
+}
+
 static void parts_at_faults(void) {
     buffer table = sample_table();
     const uint8_t *query = (const uint8_t *)"On = TRUE AND";
@@ -267,6 +389,8 @@ static void empty_slices(void) {
     const uint8_t *query = (const uint8_t *)"On = TRUE";
     EXPECT(is_failure(fql_evaluate(query, 9, table.bytes, table.length, none, 0), FQL_INSTANCE, 0));
     EXPECT(is_totals(fql_mark(query, 9, table.bytes, table.length, none, 0, none, 0), 0, 0, 0));
+    EXPECT(is_watched(fql_watch(query, 9, table.bytes, table.length, none, 0, 3, 2, none, 0), 0, 0));
+    EXPECT(fql_watch(none, 0, none, 0, none, 0, 0, 0, none, 0).number == FQL_WINDOW);
     EXPECT(is_part(fql_fault_text(none, 0, none, 0, 11, 0), FQL_OF_QUERY, 0, 0));
     EXPECT(is_part(fql_fault_text(none, 0, none, 0, 2, 0), FQL_OF_TABLE, 0, 0));
     EXPECT(is_part(fql_fault_text(none, 0, none, 0, 2, 1), FQL_NOTHING, 0, 0));
@@ -283,6 +407,9 @@ int main(void) {
     integers_of_another_length();
     marks_of_a_run();
     marks_of_a_refused_call();
+    watched_runs();
+    watched_until_the_window_has_passed();
+    watches_of_a_refused_call();
     parts_at_faults();
     empty_slices();
     printf("c/test.c: %d of %d hold\n", checked - wrong, checked);
