@@ -68,10 +68,12 @@ pub fn in_table(table: &[u8], offset: usize) -> String {
     format!("table, record {}, at byte {offset}:\n    {shown}\n", number + 1)
 }
 
+/// Of a run that the program doesn't take.
+pub fn too_long(run: &[u8]) -> String {
+    format!("run: it has {} bytes, and the program takes {LONGEST_RUN}\n", run.len())
+}
+
 pub fn in_run(run: &[u8], offset: usize) -> String {
-    if run.len() > LONGEST_RUN {
-        return format!("run: it has {} bytes, and the program takes {LONGEST_RUN}\n", run.len());
-    }
     let (number, found) = found(run, offset);
     let shown = found.describe(raw_record);
     format!("run, record {}, at byte {offset}:\n    {shown}\n", number + 1)

@@ -1,4 +1,4 @@
-//! Tables and runs of the filter engine as readable text, and refusals explained.
+//! Tables and runs of the filter engine as readable text, refusals explained, and runs watched.
 //!
 //! A text is a table and the instances of a run:
 //!
@@ -41,15 +41,18 @@ mod problem;
 mod quoted;
 mod read;
 mod records;
+mod refused;
 mod show;
 mod table;
 mod types;
 mod value;
+mod watch;
 
 pub use explain::{explain, Explanation};
 pub use problem::Problem;
 pub use read::read;
 pub use show::show;
+pub use watch::watch;
 
 /// A table and a run as bytes.
 #[derive(Clone, Debug, Default, PartialEq, Eq)]

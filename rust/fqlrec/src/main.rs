@@ -1,19 +1,21 @@
-//! The record tool: tables and runs as text and back, and refusals explained.
+//! The record tool: tables and runs as text and back, refusals explained, and runs watched.
 
 use std::fs;
 use std::io::Write;
 use std::path::Path;
 use std::process::ExitCode;
 
-use fqlrec::{explain, read, show, Files};
+use fqlrec::{explain, read, show, watch, Explanation, Files};
 
 const USAGE: &str = "\
-usage: fqlrec write FILE FOLDER    write FOLDER/table and FOLDER/run from the text in FILE
-       fqlrec show FOLDER          print FOLDER/table and FOLDER/run as text
-       fqlrec explain FOLDER       tell whether FOLDER/query is accepted and which properties it names, or where
-                                   and why not
+usage: fqlrec write FILE FOLDER           write FOLDER/table and FOLDER/run from the text in FILE
+       fqlrec show FOLDER                 print FOLDER/table and FOLDER/run as text
+       fqlrec explain FOLDER              tell whether FOLDER/query is accepted and which properties it names, or
+                                          where and why not
+       fqlrec watch FOLDER WINDOW NEED    print 1 for each instance of FOLDER/run where at least NEED of the last
+                                          WINDOW, up to and with it, are included by FOLDER/query, else 0
 
-The exit status is 0, 1 if FOLDER/query, table or run is refused, 2 if a file or an argument is wrong.
+The exit status is 0, 1 if FOLDER/query, table or run, WINDOW or NEED is refused, 2 if a file or an argument is wrong.
 ";
 
 fn main() -> ExitCode {
@@ -22,7 +24,8 @@ fn main() -> ExitCode {
     let result = match arguments[..] {
         ["write", file, folder] => write_files(file, Path::new(folder)).map(|()| true),
         ["show", folder] => print_text(Path::new(folder)).map(|()| true),
-        ["explain", folder] => print_explanation(Path::new(folder)),
+        ["explain", folder] => print_explanation(Path::new(folder), explain),
+        ["watch", folder, window, need] => print_watch(Path::new(folder), window, need),
         _ => Err(USAGE.trim_end().to_owned()),
     };
     match result {
@@ -59,9 +62,24 @@ fn print_text(folder: &Path) -> Result<(), String> {
 }
 
 /// Whether all is accepted.
-fn print_explanation(folder: &Path) -> Result<bool, String> {
+fn print_explanation(folder: &Path, explain: impl Fn(&[u8], &[u8], &[u8]) -> Explanation) -> Result<bool, String> {
     let [query, table, run] = ["query", "table", "run"].map(|name| load(&folder.join(name)));
     let explanation = explain(&query?, &table?, &run?);
     print(&explanation.text)?;
     Ok(explanation.accepted)
+}
+
+/// Any number goes to the engine, which knows the ranges.
+fn print_watch(folder: &Path, window: &str, need: &str) -> Result<bool, String> {
+    let (window, need) = (number("WINDOW", window)?, number("NEED", need)?);
+    print_explanation(folder, |query, table, run| watch(query, table, run, window, need))
+}
+
+/// An argument in decimal digits; a sign, which `parse` would take, is none.
+fn number(name: &str, argument: &str) -> Result<u64, String> {
+    let digits = argument.bytes().all(|byte| byte.is_ascii_digit());
+    match argument.parse() {
+        Ok(number) if digits => Ok(number),
+        _ => Err(format!("{name}: a decimal number from 0 to {} is needed here, not `{argument}`", u64::MAX)),
+    }
 }

@@ -66,6 +66,94 @@ fn explain() {
     assert_eq!(out, expected);
 }
 
+/// A folder with a run of which the first, third and fourth instance are included, and the fifth fails.
+fn watched(name: &str) -> PathBuf {
+    let folder = folder(name);
+    let instance = |flag: &str| format!("instance\n    On = {flag}\n");
+    let instances = ["TRUE", "FALSE", "TRUE", "TRUE"].map(instance).concat();
+    let text = format!("class P\n    On  boolean\n{instances}instance\n{}", instance("FALSE"));
+    fs::write(folder.join("text"), text).unwrap();
+    run(&folder, &["write", "text", "."]);
+    fs::write(folder.join("query"), "On = TRUE").unwrap();
+    folder
+}
+
+#[test]
+fn watch() {
+    let folder = watched("watch");
+    for (window, need, expected) in [
+        ("3", "2", "1 0\n2 0\n3 1\n4 1\n5 1\n6 0\n3 ones, 3 zeros\n"),
+        ("1", "1", "1 1\n2 0\n3 1\n4 1\n5 0\n6 0\n3 ones, 3 zeros\n"),
+        ("64", "1", "1 1\n2 1\n3 1\n4 1\n5 1\n6 1\n6 ones, 0 zeros\n"),
+        ("064", "0064", "1 0\n2 0\n3 0\n4 0\n5 0\n6 0\n0 ones, 6 zeros\n"),
+    ] {
+        let found = run(&folder, &["watch", ".", window, need]);
+        assert_eq!(found, (0, expected.to_owned(), String::new()), "{need} of {window}");
+    }
+    fs::write(folder.join("run"), "").unwrap();
+    assert_eq!(run(&folder, &["watch", ".", "3", "2"]), (0, "0 ones, 0 zeros\n".to_owned(), String::new()));
+}
+
+/// The program takes 65,536 bytes of a run; a watch takes all.
+#[test]
+fn watch_a_long_run() {
+    let folder = watched("watch_a_long_run");
+    let records = fs::read(folder.join("run")).unwrap();
+    let long = records.repeat(1 + 65_536 / records.len());
+    fs::write(folder.join("run"), &long).unwrap();
+    let (status, out, error) = run(&folder, &["watch", ".", "1", "1"]);
+    assert_eq!((status, error.as_str()), (0, ""));
+    let runs = long.len() / records.len();
+    assert!(out.ends_with(&format!("\n{} 0\n{} ones, {} zeros\n", 6 * runs, 3 * runs, 3 * runs)), "{out}");
+
+    fs::write(folder.join("run"), [&long[..], &[9]].concat()).unwrap();
+    let (status, out, _) = run(&folder, &["watch", ".", "1", "1"]);
+    let (number, place) = (6 * runs + 1, long.len());
+    let expected = format!(
+        "refused 40 at {place}: the run has no whole record of kind 0x0300 here\nrun, record {number}, at byte {place}:\n    \
+         bytes 09 (length and kind are 4 bytes, 1 present)\n"
+    );
+    assert_eq!((status, out), (1, expected));
+}
+
+/// Window and need come first, and then what explain says.
+#[test]
+fn a_refused_watch() {
+    let folder = watched("a_refused_watch");
+    let out_of_range = "refused 42 at 0: the window is not from 1 to 64, or the need not from 1 to the window\n";
+    let refused = |window, need| {
+        let (status, out, error) = run(&folder, &["watch", ".", window, need]);
+        assert_eq!((status, error.as_str()), (1, ""), "{need} of {window}");
+        out
+    };
+    let most = u64::MAX.to_string();
+    let all_out_of_range = || {
+        for (window, need) in [("0", "0"), ("0", "5"), ("65", "1"), ("3", "0"), ("3", "4"), (&most, &most)] {
+            assert_eq!(refused(window, need), out_of_range, "{need} of {window}");
+        }
+    };
+    all_out_of_range();
+    for (file, bytes) in [("run", &b"\x05\0\0\x03\x01"[..]), ("query", b"On = TRUE\nOR Of = TRUE"), ("table", b"")] {
+        fs::write(folder.join(file), bytes).unwrap();
+        all_out_of_range();
+        let (status, explained, _) = run(&folder, &["explain", "."]);
+        assert_eq!((status, refused("3", "2")), (1, explained), "{file}");
+    }
+}
+
+#[test]
+fn windows_and_needs_that_are_no_numbers() {
+    let folder = watched("windows_and_needs_that_are_no_numbers");
+    for text in ["", "x", "-1", "+3", " 3", "3 ", "3.0", "0x3", "1e1", "1_0", "18446744073709551616", "\u{664}"] {
+        for (name, window, need) in [("WINDOW", text, "2"), ("WINDOW", text, "x"), ("NEED", "3", text)] {
+            let (status, out, error) = run(&folder, &["watch", ".", window, need]);
+            assert_eq!((status, out.as_str()), (2, ""));
+            let expected = "a decimal number from 0 to 18446744073709551615 is needed here";
+            assert_eq!(error, format!("{name}: {expected}, not `{text}`\n"));
+        }
+    }
+}
+
 #[test]
 fn files_that_cannot_be_read_or_written() {
     let folder = folder("files_that_cannot_be_read_or_written");
@@ -73,6 +161,7 @@ fn files_that_cannot_be_read_or_written() {
         (&["write", "text", "files"][..], "text: "),
         (&["show", "none"], "none/table: "),
         (&["explain", "none"], "none/query: "),
+        (&["watch", "none", "3", "2"], "none/query: "),
     ] {
         let (status, out, error) = run(&folder, arguments);
         assert_eq!((status, out.as_str()), (2, ""));
@@ -87,9 +176,19 @@ fn files_that_cannot_be_read_or_written() {
 #[test]
 fn arguments_that_are_none() {
     let folder = folder("arguments_that_are_none");
-    for arguments in
-        [&[][..], &["write"], &["write", "text"], &["show"], &["show", "a", "b"], &["explain"], &["read", "x"]]
-    {
+    for arguments in [
+        &[][..],
+        &["write"],
+        &["write", "text"],
+        &["show"],
+        &["show", "a", "b"],
+        &["explain"],
+        &["watch"],
+        &["watch", "a"],
+        &["watch", "a", "3"],
+        &["watch", "a", "3", "2", "1"],
+        &["read", "x"],
+    ] {
         let (status, out, error) = run(&folder, arguments);
         assert_eq!((status, out.as_str()), (2, ""));
         assert!(error.starts_with("usage: fqlrec write FILE FOLDER "), "{error}");
