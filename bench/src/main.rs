@@ -14,6 +14,7 @@ mod re2;
 #[cfg_attr(not(sqlite), path = "sqlite_absent.rs")]
 mod sqlite;
 mod stack;
+mod watch;
 
 use data::Setting;
 
@@ -35,6 +36,7 @@ fn main() {
     operations::evaluate(&large, "large");
     operations::mark(&small, "small");
     operations::mark(&large, "large");
+    watch::run(&small);
     #[cfg(re2)]
     like::run();
     growth::run();

@@ -1,4 +1,5 @@
-//! One call of mark and nothing else, for a profiler: `bench profile KIND`.
+//! One call of mark, one of watch and nothing else, for a profiler: `bench profile KIND`. Callgrind collects either with
+//! `--toggle-collect=fql_mark` or `--toggle-collect=fql_watch`.
 
 use crate::data::{filters, Setting};
 
@@ -11,5 +12,7 @@ pub fn run(kind: &str) {
     let setting = Setting::small(2_000);
     let mut marks = setting.marks();
     let totals = fql::mark(filter.fql.as_bytes(), &setting.table, &setting.run, &mut marks).unwrap();
+    println!("{totals:?}");
+    let totals = fql::watch(filter.fql.as_bytes(), &setting.table, &setting.run, 64, 32, &mut marks).unwrap();
     println!("{totals:?}");
 }

@@ -15,7 +15,7 @@ pub fn run() {
 
 fn print() {
     println!("\nstack: bytes below the caller ({MARGIN} stands for as much or less)");
-    println!("{:46}{:>8}{:>10}{:>8}{:>12}", "filter", "check", "evaluate", "mark", "fault text");
+    println!("{:46}{:>8}{:>10}{:>8}{:>8}{:>12}", "filter", "check", "evaluate", "mark", "watch", "fault text");
     let setting = Setting::large(4);
     let length = usize::from(u16::from_le_bytes([setting.run[0], setting.run[1]]));
     let instance = &setting.run[4..4 + length];
@@ -27,9 +27,10 @@ fn print() {
             used(|| u64::from(fql::check(query, &setting.table).is_ok())),
             used(|| fql::evaluate(query, &setting.table, instance).unwrap().steps),
             used(|| fql::mark(query, &setting.table, &setting.run, &mut marks).unwrap().included),
+            used(|| fql::watch(query, &setting.table, &setting.run, 64, 32, &mut marks).unwrap().ones),
             used(|| fql::fault_text(query, &setting.table, 11, 3).bytes().len() as u64),
         ];
-        println!("{name:46}{:>8}{:>10}{:>8}{:>12}", used[0], used[1], used[2], used[3]);
+        println!("{name:46}{:>8}{:>10}{:>8}{:>8}{:>12}", used[0], used[1], used[2], used[3], used[4]);
     }
 }
 
