@@ -1,4 +1,4 @@
--- What follows for a call of watch: when it is refused with 42, the totals, each mark, the bytes beyond.
+-- What follows for a call of watch: when it is refused, the totals, each mark, the bytes beyond.
 use Prim.Native.Nat.{ℕ, _+_, _≤_, _<_}
 use mathlib.Core.List.{List, _++_}
 use mathlib.Core.Logic.{_↔_}
@@ -13,11 +13,11 @@ use Rattle.run.specs.Totals.{marksOf}
 use Rattle.run.specs.declared.totals.Totals.{Totals}
 use Rattle.run.proofs.Corollaries.{marks-length}
 use Rattle.mark.specs.Mark as mark
+use Rattle.mark.specs.declared.refusal.MarkRefusal.{MarkRefusal}
 use Rattle.mark.specs.declared.refusal.Marked.{Marked}
 use Rattle.mark.specs.declared.refusal.Marked.the-variants as marked
 use Rattle.watch.specs.declared.refusal.WatchTotals.{WatchTotals}
 use Rattle.watch.specs.declared.refusal.WatchRefusal.{WatchRefusal}
-use Rattle.watch.specs.declared.refusal.WatchCause.{WatchCause}
 use Rattle.watch.specs.declared.refusal.WatchCause.the-variants.{Window, Mark}
 use Rattle.watch.specs.declared.refusal.Watched.{Watched}
 use Rattle.watch.specs.declared.refusal.Watched.the-variants as watched
@@ -26,56 +26,56 @@ use Rattle.watch.specs.Watch.{inRange, totalsOf, watchedOf, watchMarked,
 use Rattle.watch.proofs.Marks.{from-sum, watched-at, watched-length}
 use Rattle.watch.proofs.PlainMarks.{one-exactly}
 
--- ---- 42 exactly where the window or the need is outside its range, whatever else is wrong
-windowCause : WatchCause → ℕ
-windowCause Window = 1
-windowCause (Mark c) = 0
-
-windowFault : Watched → ℕ
-windowFault (watched.Totals x) = 0
-windowFault (watched.Refused r) = windowCause (r .cause)
+abbrev windowFault : Watched → ℕ
+windowFault w = elim w [ watched.Totals x ↦ 0 | watched.Refused r ↦ elim (r .cause) [ Window ↦ 1 | Mark c ↦ 0 ] ]
 
 module _ (q t run : List ℕ) (n k size : ℕ) where
   abbrev outside : Watched
   outside = watched.Refused (record { cause = Window; place = 0 })
 
-  not-window : (ms : List ℕ) (v : Marked) → watchMarked ms v ≡ outside → ⊥
-  unfolding windowFault windowCause
-  not-window ms (marked.Refused r) e = let z : _≡_ {A = ℕ} 0 1 = ap windowFault e in omega arith
-  not-window ms (marked.Totals y) e = let z : _≡_ {A = ℕ} 0 1 = ap windowFault e in omega arith
+  not-outside : (ms : List ℕ) (v : Marked) → watchMarked ms v ≡ outside → ⊥
+  not-outside ms (marked.Refused r) e = let z : _≡_ {A = ℕ} 0 1 = ap windowFault e in omega arith
+  not-outside ms (marked.Totals y) e = let z : _≡_ {A = ℕ} 0 1 = ap windowFault e in omega arith
 
   decides : (b : Bool) (ms : List ℕ) (v : Marked) → (pick b (watchMarked ms v) outside ≡ outside) ↔ (b ≡ false)
-  decides true ms v = (λ e. absurd (not-window ms v e), λ e. let z : _≡_ {A = ℕ} 0 1 = cc in absurd (omega arith))
+  decides true ms v = (λ e. absurd (not-outside ms v e), λ e. let z : _≡_ {A = ℕ} 0 1 = cc in absurd (omega arith))
   decides false ms v = (λ e. refl, λ e. refl)
 
+  -- 42 exactly where the window or the need is outside its range, whatever else is wrong
   pub window-exactly : (watch q t run n k size ≡ outside) ↔ (inRange n k ≡ false)
   unfolding watch
   window-exactly = decides (inRange n k) (watchedOf q t run n k) (mark.mark q t run size)
 
--- ---- a good call is one that mark too would serve, and returns how many of its marks are 1 and how many are 0
+  -- "refused as mark"
+  pub refused-as-mark : inRange n k ≡ true → (r : MarkRefusal) → mark.mark q t run size ≡ marked.Refused r
+      → watch q t run n k size ≡ watched.Refused (record { cause = Mark (r .cause); place = r .place })
+  unfolding watch
+  refused-as-mark h r e = rw (h, e) refl
+
+-- ---- a good call: in range, one that mark too would serve, and its totals are counts of its marks
+pub record Served (q t run : List ℕ) (n k size : ℕ) (x : WatchTotals) : Type 0 where
+  pub in-range : inRange n k ≡ true
+  pub marked : (y : Totals) × (mark.mark q t run size ≡ marked.Totals y)
+  pub totals : x ≡ totalsOf (watchedOf q t run n k)
+
 module _ (q t run : List ℕ) (n k size : ℕ) (x : WatchTotals) where
   not-totals : (r : WatchRefusal) → watched.Refused r ≡ watched.Totals x → ⊥
   not-totals r e = let z : _≡_ {A = ℕ} 0 1 = cc in omega arith
 
-  abbrev Good : (marks : List ℕ) → Marked → Type 0
-  Good ms v = (x ≡ totalsOf ms) × ((y : Totals) × (v ≡ marked.Totals y))
+  served-by : (b : Bool) → inRange n k ≡ b → (v : Marked) → mark.mark q t run size ≡ v → (r : WatchRefusal)
+      → pick b (watchMarked (watchedOf q t run n k) v) (watched.Refused r) ≡ watched.Totals x → Served q t run n k size x
+  served-by true h (marked.Totals y) g r e = record { in-range = h; marked = (y, g); totals = cc }
+  served-by true h (marked.Refused s) g r e = absurd (not-totals _ e)
+  served-by false h v g r e = absurd (not-totals r e)
 
-  good-marked : (ms : List ℕ) (v : Marked) → watchMarked ms v ≡ watched.Totals x → Good ms v
-  good-marked ms (marked.Refused r) e = absurd (not-totals _ e)
-  good-marked ms (marked.Totals y) e = (cc, (y, refl))
-
-  good-range : (b : Bool) (r : WatchRefusal) (ms : List ℕ) (v : Marked) → pick b (watchMarked ms v) (watched.Refused r) ≡ watched.Totals x → Good ms v
-  good-range true r ms v e = good-marked ms v e
-  good-range false r ms v e = absurd (not-totals r e)
-
-  pub good : watch q t run n k size ≡ watched.Totals x → Good (watchedOf q t run n k) (mark.mark q t run size)
+  pub served : watch q t run n k size ≡ watched.Totals x → Served q t run n k size x
   unfolding watch
-  good e = good-range (inRange n k) _ (watchedOf q t run n k) (mark.mark q t run size) e
+  served e = served-by (inRange n k) refl (mark.mark q t run size) refl _ e
 
   -- ones + zeros is the number of instances
   pub totals-sum : watch q t run n k size ≡ watched.Totals x → x .ones + x .zeros ≡ length (instancesOf run)
   totals-sum e =
-      ap (λ (y : WatchTotals). y .ones + y .zeros) (good e .0)
+      ap (λ (y : WatchTotals). y .ones + y .zeros) (served e .totals)
       ∙ from-sum n k (marksOf q t run) 0 (length (marksOf q t run))
       ∙ marks-length q t run
 
@@ -86,10 +86,10 @@ module _ (q t run : List ℕ) (n k : ℕ) (m : List ℕ) where
   unfolding marksAfter
   refused-leaves r e = ap (marksBy q t run n k m) e
 
-  module _ (x : WatchTotals) (served : watch q t run n k (length m) ≡ watched.Totals x) where
+  module _ (x : WatchTotals) (good : watch q t run n k (length m) ≡ watched.Totals x) where
     after : marksAfter q t run n k m ≡ watchedOf q t run n k ++ drop (length (instancesOf run)) m
     unfolding marksAfter
-    after = ap (marksBy q t run n k m) served
+    after = ap (marksBy q t run n k m) good
 
     as-many : length (watchedOf q t run n k) ≡ length (instancesOf run)
     as-many = watched-length n k (marksOf q t run) ∙ marks-length q t run

@@ -10,8 +10,8 @@ use lib.Seq.{length-take-le, getD-take}
 use Rattle.base.specs.Pick.{pick}
 use Rattle.run.proofs.Counts.{one, one-small}
 use Rattle.run.specs.Totals.{count}
-use Rattle.watch.specs.Window.{isOne, lastOf, included}
-use Rattle.watch.proofs.Windows.{last-all, included-small, included-few, included-none, included-more, ends-with, moves-short, moves-whole}
+use Rattle.watch.specs.Window.{isOne, included}
+use Rattle.watch.proofs.Windows.{last-all, included-few, included-none, included-more, ends-with, moves-short, moves-whole}
 
 -- a test as a number
 pub as-number : (b : Bool) → boolByte b ≡ pick b 1 0
@@ -62,5 +62,5 @@ module _ (ms : List ℕ) (end window held : ℕ) (h : end < length ms) (g : 1 �
     pub one-enters : held - o + i ≡ included window (take end ms)
     one-enters = omega (arith, leaving, moves-whole window ms end h g l)
 
-    pub entering-fits : held - o + i ≤ end
-    entering-fits = omega (arith, one-enters, included-small window (take end ms), length-take-le end ms (let z : end ≤ length ms = omega arith in z))
+    pub entering-fits : held - o + i ≤ window
+    entering-fits = omega (arith, one-enters, included-few window (take end ms))

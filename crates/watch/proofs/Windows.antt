@@ -1,14 +1,14 @@
 -- Windows over plain marks: which marks they hold, and how many of those are included when a window grows, or moves to the mark before.
-use Prim.Native.Nat.{ℕ, zero, suc, _+_, _-_, _≤_, _<_}
+use Prim.Native.Nat.{ℕ, _+_, _-_, _≤_, _<_}
 use mathlib.Core.List.{List, [], _∷_, _++_}
-use mathlib.Core.Path.{_≡_, refl, sym, ap, _∙_}
+use mathlib.Core.Path.{_≡_, ap, _∙_}
 use native.Mathlib.Omega.{arith}
 use native.Mathlib.Numerals.{add-one}
 use lib.ListN.{length, getD, take, drop, length-append, length-drop}
 use lib.Seq.{length-take-le, take-suc, drop-at, drop-append-le, getD-take}
 use Rattle.base.proofs.Lists.{at-end}
 use Rattle.run.specs.Totals.{count}
-use Rattle.run.proofs.Counts.{one, one-small, count-none, count-next, count-append, count-small, count-from}
+use Rattle.run.proofs.Counts.{one, count-none, count-next, count-append, count-small, count-from}
 use Rattle.watch.specs.Window.{isOne, lastOf, included}
 
 -- ---- "the last n": n marks where there are so many, and "before n have passed, those that there are"
@@ -19,9 +19,6 @@ pub last-some : (n : ℕ) (before ms : List ℕ) → length ms ≡ n → lastOf 
 last-some n before ms h = drop-at before ms (length (before ++ ms) - n) (omega (arith, length-append before ms))
 
 -- ---- a window of marks, one by one
-pub included-small : (n : ℕ) (ms : List ℕ) → included n ms ≤ length ms
-included-small n ms = omega (arith, count-small isOne (lastOf n ms), length-drop (length ms - n) ms)
-
 pub included-few : (n : ℕ) (ms : List ℕ) → included n ms ≤ n
 included-few n ms = omega (arith, count-small isOne (lastOf n ms), length-drop (length ms - n) ms)
 

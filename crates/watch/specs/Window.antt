@@ -9,6 +9,7 @@ use lib.Dec.{leb, eqb}
 use Rattle.base.specs.Pick.{pick}
 use Rattle.run.specs.Totals.{count}
 
+-- of the plain marks, those of the instances that are included; neither 0 nor 255 is
 abbrev pub isOne : (mark : ℕ) → Bool
 isOne m = eqb m 1
 
@@ -16,21 +17,21 @@ abbrev pub isZero : (mark : ℕ) → Bool
 isZero m = eqb m 0
 
 -- the last n, or all where there are fewer
-abbrev pub lastOf : (n : ℕ) (marks : List ℕ) → List ℕ
+abbrev pub lastOf : (n : ℕ) (plain : List ℕ) → List ℕ
 lastOf n ms = drop (length ms - n) ms
 
 -- how many of the last n are included
-abbrev pub included : (n : ℕ) (marks : List ℕ) → ℕ
+abbrev pub included : (n : ℕ) (plain : List ℕ) → ℕ
 included n ms = count isOne (lastOf n ms)
 
--- the mark of the last of some instances
-abbrev pub windowMark : (window need : ℕ) (marks : List ℕ) → ℕ
+-- the mark of an instance, by the plain marks up to and with its own
+abbrev pub windowMark : (window need : ℕ) (plain : List ℕ) → ℕ
 windowMark n k ms = pick (leb k (included n ms)) 1 0
 
--- of plain marks: so many of the watch's, from the j-th on, each by those up to and with its own
-unfoldable pub watchedFrom : (window need : ℕ) (marks : List ℕ) (j count : ℕ) → List ℕ
+-- so many marks, from that of the j-th instance on
+unfoldable pub watchedFrom : (window need : ℕ) (plain : List ℕ) (j size : ℕ) → List ℕ
 watchedFrom n k ms j zero = []
-watchedFrom n k ms j (suc c) = windowMark n k (take (j + 1) ms) ∷ watchedFrom n k ms (j + 1) c
+watchedFrom n k ms j (suc size) = windowMark n k (take (j + 1) ms) ∷ watchedFrom n k ms (j + 1) size
 
-abbrev pub watched : (window need : ℕ) (marks : List ℕ) → List ℕ
+abbrev pub watched : (window need : ℕ) (plain : List ℕ) → List ℕ
 watched n k ms = watchedFrom n k ms 0 (length ms)

@@ -22,7 +22,7 @@ fn mark_of(held: usize, need: usize) -> u8
     (need <= held) as u8
 }
 
-// How many of the window that ends before `end` are included.
+// How many instances of the window that ends before `end` are included.
 fn included_before(marks: &[u8], end: usize, window: usize) -> usize
     requires { ⌜ end ≤ length (now marks) ⌝ }
     ensures { λ r. ⌜ r ≡ included window (take end (now (marks .entry))) ⌝ }
@@ -39,7 +39,7 @@ fn included_before(marks: &[u8], end: usize, window: usize) -> usize
     ones
 }
 
-// The same, from how many of the window that ends with `end` are: one mark leaves it and, where it reaches so far back, one comes in.
+// The same, where `held` of the window that ends with `end` are: one mark leaves it and, if the window reaches so far back, one comes in.
 fn moved_before(marks: &[u8], end: usize, window: usize, held: usize) -> usize
     requires { ⌜ (end < length (now marks)) × (1 ≤ window) × (held ≡ included window (take (end + 1) (now marks))) ⌝ }
     ensures { λ r. ⌜ r ≡ included window (take end (now (marks .entry))) ⌝ }
@@ -51,7 +51,7 @@ fn moved_before(marks: &[u8], end: usize, window: usize, held: usize) -> usize
     kept + one_of(marks[end - window])
 }
 
-// The first `count` marks, from plain ones to those of the watch.
+// Makes the first `count` marks, which are plain, those of the watch.
 pub(crate) fn watch_marks(marks: &mut [u8], count: usize, window: usize, need: usize) -> WatchTotals
     requires { ⌜ (count ≤ length (now marks)) × (1 ≤ window) ⌝ }
     ensures { λ r. ⌜ (r ≡ totalsOf (watched window need (take count (now (marks .entry))))) × (now (marks .exit) ≡ watched window need (take count (now (marks .entry))) ++ drop count (now (marks .entry))) × (length (now (marks .exit)) ≡ length (now (marks .entry))) ⌝ }
