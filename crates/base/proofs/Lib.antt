@@ -10,4 +10,5 @@ pub mod Orders
 pub mod Examples
 pub mod Signed
 pub mod Operators
+pub mod Pick
 pub mod Decimal

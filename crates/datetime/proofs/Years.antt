@@ -7,6 +7,7 @@ use native.Mathlib.Nat.{le-refl, eq-or-lt-of-le, le-of-suc-le-suc, suc-add, add-
 use native.Mathlib.Omega.{arith}
 use lib.Dec.{ltb, ltb→lt}
 use Rattle.base.specs.Pick.{pick}
+use Rattle.base.proofs.Pick.{picked-small}
 use Rattle.base.proofs.Tabulate.{all-at}
 use Rattle.datetime.specs.Calendar.{leapYear, leapYears, daysBeforeYear, daysBeforeMonth}
 
@@ -51,14 +52,10 @@ days-by-cycle y d e =
     let l : leapYears y ≡ y / 400 * 97 + leapYears (y % 400) = ap leapYears (sym w) ∙ leap-years-cycles (y / 400) (y % 400) in
     omega arith
 
-one-le : (b : Bool) → pick b 1 0 ≤ 1
-one-le true = omega arith
-one-le false = omega arith
-
 pub leap-years-le : (y : ℕ) → leapYears y ≤ y
 unfolding leapYears
 leap-years-le zero = le-refl 0
-leap-years-le (suc y) = omega (arith, leap-years-le y, one-le (leapYear y))
+leap-years-le (suc y) = omega (arith, leap-years-le y, picked-small (leapYear y))
 
 pub leap-years-grow : (y z : ℕ) → y ≤ z → leapYears y ≤ leapYears z
 unfolding leapYears

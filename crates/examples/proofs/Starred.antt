@@ -173,7 +173,7 @@ unfolding
     run-run.readingFrom run-run.runReading run-run.bodiesOf run-run.instancesOf
     run-totals.count
     mark-mark.mark mark-mark.marksAfter
-    watch-window.watchedFrom
+    watch-window.watchMarksFrom
     watch-watch.watch watch-watch.marksAfter
     invariance-named-properties.namedBy invariance-named-properties.namedIn invariance-named-properties.without invariance-named-properties.distinct invariance-named-properties.namedProperties
     text-writer-decimal.digitsWithin text-writer-decimal.decimal

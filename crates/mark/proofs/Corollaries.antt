@@ -4,7 +4,7 @@ use mathlib.Core.List.{List, [], _∷_, _++_, map}
 use mathlib.Core.Bool.{Bool, true, false}
 use mathlib.Core.Path.{_≡_, refl, ap, _∙_}
 use native.Mathlib.Omega.{arith}
-use lib.ListN.{length, getD, drop, length-map, List·getD-append}
+use lib.ListN.{length, getD, drop, List·getD-append}
 use lib.Dec.{ltb}
 use Rattle.base.specs.Pick.{pick}
 use Rattle.base.proofs.Lists.{beyond-kept}
@@ -22,7 +22,7 @@ use Rattle.run.specs.Run.{runReading, instancesOf}
 use Rattle.run.specs.Totals.{markOf, answersOf, marksOf, totalsOf}
 use Rattle.mark.specs.Mark.{markRead, markChecked, mark, marksBy, marksAfter}
 use Rattle.run.proofs.Counting.{sum}
-use Rattle.run.proofs.Corollaries.{totals-sum, marks-length}
+use Rattle.run.proofs.Corollaries.{answers-length, marks-length, totals-sum}
 
 -- a good call returns the totals of its instances' answers
 not-totals : (r : MarkRefusal) (x : Totals) → marked.Refused r ≡ marked.Totals x → ⊥
@@ -61,19 +61,16 @@ module _ (q t run m : List ℕ) where
   refused-leaves r e = ap (marksBy q t run m) e
 
   module _ (x : Totals) (good : mark q t run (length m) ≡ marked.Totals x) where
-    after : marksAfter q t run m ≡ marksOf q t run ++ drop (length (instancesOf run)) m
+    pub after : marksAfter q t run m ≡ marksOf q t run ++ drop (length (instancesOf run)) m
     unfolding marksAfter
     after = ap (marksBy q t run m) good
-
-    answers-length : length (answersOf q t run) ≡ length (instancesOf run)
-    answers-length = length-map (instancesOf run) (evaluate q t)
 
     -- the i-th mark is the byte of what evaluate says of the i-th instance
     pub mark-at : (i : ℕ) → i < length (instancesOf run) → getD (marksAfter q t run m) i 0 ≡ markOf (evaluate q t (getD (instancesOf run) i []))
     mark-at i h =
         ap (λ (l : List ℕ). getD l i 0) after
         ∙ List·getD-append (marksOf q t run) (drop (length (instancesOf run)) m) 0 i (omega (arith, marks-length q t run))
-        ∙ mapped-at markOf (answersOf q t run) i 0 (evaluate q t []) (omega (arith, answers-length))
+        ∙ mapped-at markOf (answersOf q t run) i 0 (evaluate q t []) (omega (arith, answers-length q t run))
         ∙ ap markOf (mapped-at (evaluate q t) (instancesOf run) i (evaluate q t []) [] h)
 
     -- "bytes beyond keep their values"

@@ -43,13 +43,16 @@ sum-of (Included n ∷ l) = omega (arith, sum-of l)
 sum-of (Excluded n ∷ l) = omega (arith, sum-of l)
 sum-of (Refused r ∷ l) = omega (arith, sum-of l)
 
+-- one answer for each instance, and one mark
+pub answers-length : (q t run : List ℕ) → length (answersOf q t run) ≡ length (instancesOf run)
+answers-length q t run = length-map (instancesOf run) (evaluate q t)
+
+pub marks-length : (q t run : List ℕ) → length (marksOf q t run) ≡ length (instancesOf run)
+marks-length q t run = length-map (answersOf q t run) markOf ∙ answers-length q t run
+
 -- included + excluded + failed is the number of instances
 pub totals-sum : (q t run : List ℕ) → sum (totalsOf (answersOf q t run)) ≡ length (instancesOf run)
-totals-sum q t run = sum-of (answersOf q t run) ∙ length-map (instancesOf run) (evaluate q t)
-
--- one mark for each instance
-pub marks-length : (q t run : List ℕ) → length (marksOf q t run) ≡ length (instancesOf run)
-marks-length q t run = length-map (answersOf q t run) markOf ∙ length-map (instancesOf run) (evaluate q t)
+totals-sum q t run = sum-of (answersOf q t run) ∙ answers-length q t run
 
 -- ---- the instances of a run: a body's length has two bytes
 module _ (s : List ℕ) (b : Bytes s) where

@@ -1,18 +1,15 @@
 -- How many members of a list are of a sort: of none, of one more, of two lists.
 use Prim.Native.Nat.{ℕ, _+_, _≤_, _<_}
 use mathlib.Core.List.{List, [], _∷_, _++_}
-use mathlib.Core.Bool.{Bool, true, false}
+use mathlib.Core.Bool.{Bool}
 use mathlib.Core.Path.{_≡_, refl, sym, ap, _∙_}
 use native.Mathlib.Omega.{arith}
 use native.Mathlib.Numerals.{add-one}
 use lib.ListN.{length, getD, drop}
 use lib.Seq.{drop-cons}
 use Rattle.base.specs.Pick.{pick}
+use Rattle.base.proofs.Pick.{picked-small}
 use Rattle.run.specs.Totals.{count}
-
-pub picked-small : (b : Bool) → pick b 1 0 ≤ 1
-picked-small true = omega arith
-picked-small false = omega arith
 
 module _ {A : Type 0} (sort : A → Bool) where
   -- 1 for a member of the sort, else 0

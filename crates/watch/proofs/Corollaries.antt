@@ -22,29 +22,25 @@ use Rattle.watch.specs.declared.refusal.WatchCause.the-variants.{Window,
 use Rattle.watch.specs.declared.refusal.Watched.{Watched}
 use Rattle.watch.specs.declared.refusal.Watched.the-variants as watched
 use Rattle.watch.specs.Window.{included, windowMark}
-use Rattle.watch.specs.Watch.{inRange, totalsOf, watchedOf, watchMarked, watch, marksBy, marksAfter}
-use Rattle.watch.proofs.Marks.{from-sum, watched-at, watched-length}
-use Rattle.watch.proofs.PlainMarks.{one-exactly}
+use Rattle.watch.specs.Watch.{inRange, outOfRange, totalsOf, watchMarksOf, watchMarked, watch, marksBy, marksAfter}
+use Rattle.watch.proofs.Marks.{one-exactly, from-sum, watch-marks-at, watch-marks-length}
 
 abbrev windowFault : Watched → ℕ
 windowFault w = elim w [ watched.Totals x ↦ 0 | watched.Refused r ↦ elim (r .cause) [ Window ↦ 1 | Mark c ↦ 0 ] ]
 
 module _ (q t run : List ℕ) (n k size : ℕ) where
-  abbrev outside : Watched
-  outside = watched.Refused (record { cause = Window; place = 0 })
-
-  not-outside : (ms : List ℕ) (v : Marked) → watchMarked ms v ≡ outside → ⊥
+  not-outside : (ms : List ℕ) (v : Marked) → watchMarked ms v ≡ outOfRange → ⊥
   not-outside ms (marked.Refused r) e = let z : _≡_ {A = ℕ} 0 1 = ap windowFault e in omega arith
   not-outside ms (marked.Totals y) e = let z : _≡_ {A = ℕ} 0 1 = ap windowFault e in omega arith
 
-  decides : (b : Bool) (ms : List ℕ) (v : Marked) → (pick b (watchMarked ms v) outside ≡ outside) ↔ (b ≡ false)
+  decides : (b : Bool) (ms : List ℕ) (v : Marked) → (pick b (watchMarked ms v) outOfRange ≡ outOfRange) ↔ (b ≡ false)
   decides true ms v = (λ e. absurd (not-outside ms v e), λ e. let z : _≡_ {A = ℕ} 0 1 = cc in absurd (omega arith))
   decides false ms v = (λ e. refl, λ e. refl)
 
-  -- 42 exactly where the window or the need is outside its range, whatever else is wrong
-  pub window-exactly : (watch q t run n k size ≡ outside) ↔ (inRange n k ≡ false)
+  -- 42 exactly where the window or the need is outOfRange its range, whatever else is wrong
+  pub window-exactly : (watch q t run n k size ≡ outOfRange) ↔ (inRange n k ≡ false)
   unfolding watch
-  window-exactly = decides (inRange n k) (watchedOf q t run n k) (mark.mark q t run size)
+  window-exactly = decides (inRange n k) (watchMarksOf q t run n k) (mark.mark q t run size)
 
   -- "refused as mark"
   pub refused-as-mark : inRange n k ≡ true → (r : MarkRefusal) → mark.mark q t run size ≡ marked.Refused r
@@ -56,14 +52,14 @@ module _ (q t run : List ℕ) (n k size : ℕ) where
 pub record Served (q t run : List ℕ) (n k size : ℕ) (x : WatchTotals) : Type 0 where
   pub in-range : inRange n k ≡ true
   pub marked : (y : Totals) × (mark.mark q t run size ≡ marked.Totals y)
-  pub totals : x ≡ totalsOf (watchedOf q t run n k)
+  pub totals : x ≡ totalsOf (watchMarksOf q t run n k)
 
 module _ (q t run : List ℕ) (n k size : ℕ) (x : WatchTotals) where
   not-totals : (r : WatchRefusal) → watched.Refused r ≡ watched.Totals x → ⊥
   not-totals r e = let z : _≡_ {A = ℕ} 0 1 = cc in omega arith
 
   served-by : (b : Bool) → inRange n k ≡ b → (v : Marked) → mark.mark q t run size ≡ v → (r : WatchRefusal)
-      → pick b (watchMarked (watchedOf q t run n k) v) (watched.Refused r) ≡ watched.Totals x → Served q t run n k size x
+      → pick b (watchMarked (watchMarksOf q t run n k) v) (watched.Refused r) ≡ watched.Totals x → Served q t run n k size x
   served-by true h (marked.Totals y) g r e = record { in-range = h; marked = (y, g); totals = cc }
   served-by true h (marked.Refused s) g r e = absurd (not-totals _ e)
   served-by false h v g r e = absurd (not-totals r e)
@@ -87,19 +83,19 @@ module _ (q t run : List ℕ) (n k : ℕ) (m : List ℕ) where
   refused-leaves r e = ap (marksBy q t run n k m) e
 
   module _ (x : WatchTotals) (good : watch q t run n k (length m) ≡ watched.Totals x) where
-    after : marksAfter q t run n k m ≡ watchedOf q t run n k ++ drop (length (instancesOf run)) m
+    after : marksAfter q t run n k m ≡ watchMarksOf q t run n k ++ drop (length (instancesOf run)) m
     unfolding marksAfter
     after = ap (marksBy q t run n k m) good
 
-    as-many : length (watchedOf q t run n k) ≡ length (instancesOf run)
-    as-many = watched-length n k (marksOf q t run) ∙ marks-length q t run
+    as-many : length (watchMarksOf q t run n k) ≡ length (instancesOf run)
+    as-many = watch-marks-length n k (marksOf q t run) ∙ marks-length q t run
 
     -- the j-th mark is that of the window that ends there
     pub watch-at : (j : ℕ) → j < length (instancesOf run) → getD (marksAfter q t run n k m) j 0 ≡ windowMark n k (take (j + 1) (marksOf q t run))
     watch-at j h =
         ap (λ (l : List ℕ). getD l j 0) after
-        ∙ List·getD-append (watchedOf q t run n k) (drop (length (instancesOf run)) m) 0 j (omega (arith, as-many))
-        ∙ watched-at n k (marksOf q t run) j (omega (arith, marks-length q t run))
+        ∙ List·getD-append (watchMarksOf q t run n k) (drop (length (instancesOf run)) m) 0 j (omega (arith, as-many))
+        ∙ watch-marks-at n k (marksOf q t run) j (omega (arith, marks-length q t run))
 
     -- "1 when at least k of the last n, up to and with it, are included"
     pub watch-exactly : (j : ℕ) → j < length (instancesOf run) → (getD (marksAfter q t run n k m) j 0 ≡ 1) ↔ (k ≤ included n (take (j + 1) (marksOf q t run)))
@@ -109,4 +105,4 @@ module _ (q t run : List ℕ) (n k : ℕ) (m : List ℕ) where
 
     -- "bytes beyond keep their values"
     pub watch-beyond : (i : ℕ) → length (instancesOf run) ≤ i → getD (marksAfter q t run n k m) i 0 ≡ getD m i 0
-    watch-beyond i h = ap (λ (l : List ℕ). getD l i 0) after ∙ beyond-kept (watchedOf q t run n k) m (length (instancesOf run)) i as-many h
+    watch-beyond i h = ap (λ (l : List ℕ). getD l i 0) after ∙ beyond-kept (watchMarksOf q t run n k) m (length (instancesOf run)) i as-many h

@@ -1,22 +1,14 @@
 -- One law for each exit of the functions of `src/window.rt` that count a window, `one_of` to `moved_before`.
 use Prim.Native.Nat.{ℕ, _+_, _-_, _≤_, _<_}
 use mathlib.Core.List.{List}
-use mathlib.Core.Bool.{Bool, true, false}
-use mathlib.Core.Path.{_≡_, refl, sym, ap, _∙_}
+use mathlib.Core.Path.{_≡_, sym, ap, _∙_}
 use native.Mathlib.Omega.{arith}
-use mir.Val.{boolByte}
 use lib.ListN.{length, getD, take}
 use lib.Seq.{length-take-le, getD-take}
-use Rattle.base.specs.Pick.{pick}
 use Rattle.run.proofs.Counts.{one, one-small}
 use Rattle.run.specs.Totals.{count}
 use Rattle.watch.specs.Window.{isOne, included}
 use Rattle.watch.proofs.Windows.{last-all, included-few, included-none, included-more, ends-with, moves-short, moves-whole}
-
--- a test as a number
-pub as-number : (b : Bool) → boolByte b ≡ pick b 1 0
-as-number true = refl
-as-number false = refl
 
 -- ---- included_before: the last i of the window are counted
 pub record Counting (ms : List ℕ) (end window ones i : ℕ) : Type 0 where

@@ -6,5 +6,5 @@ use Rattle.watch.specs.Window
 use Rattle.watch.specs.Examples.{marks, examples}
 
 pub examples-right : results marks examples ≡ expected examples
-unfolding Totals.count Window.watchedFrom
+unfolding Totals.count Window.watchMarksFrom
 examples-right = refl

@@ -19,14 +19,13 @@ use Rattle.mark.specs.Mark as mark
 use Rattle.mark.specs.declared.refusal.MarkRefusal.{MarkRefusal}
 use Rattle.mark.specs.declared.refusal.Marked.{Marked}
 use Rattle.mark.specs.declared.refusal.Marked.the-variants as marked
-use Rattle.mark.proofs.Corollaries.{good-sum}
+use Rattle.mark.proofs.Corollaries as marks
 use Rattle.watch.specs.declared.refusal.WatchTotals.{WatchTotals}
 use Rattle.watch.specs.declared.refusal.WatchRefusal.{WatchRefusal}
-use Rattle.watch.specs.declared.refusal.WatchCause.the-variants.{Window, Mark}
-use Rattle.watch.specs.declared.refusal.Watched.{Watched}
+use Rattle.watch.specs.declared.refusal.WatchCause.the-variants.{Mark}
 use Rattle.watch.specs.declared.refusal.Watched.the-variants as watched
 use Rattle.watch.specs.Window as window
-use Rattle.watch.specs.Watch.{inRange, totalsOf, watchedOf, watchMarked, watch, marksBy, marksAfter}
+use Rattle.watch.specs.Watch.{inRange, outOfRange, totalsOf, watchMarksOf, watchMarked, watch, marksBy, marksAfter}
 
 -- "a window of n instances (1 to 64) and a need of k (1 to n)"
 pub range-says : (n k : ℕ) → Says (inRange n k) (((1 ≤ n) × (n ≤ 64)) × ((1 ≤ k) × (k ≤ n)))
@@ -43,11 +42,10 @@ module _ (q t run m : List ℕ) {v : Marked} (ev : v ≡ mark.mark q t run (leng
   beyond = drop (length (instancesOf run)) m
 
   after : u ≡ marksOf q t run ++ beyond
-  unfolding mark.marksAfter
-  after = eu ∙ ap (mark.marksBy q t run m) (sym ev ∙ e)
+  after = eu ∙ marks.after q t run m x (sym ev ∙ e)
 
   plain : length (marksOf q t run) ≡ sum x
-  plain = marks-length q t run ∙ sym (good-sum q t run (length m) x (sym ev ∙ e))
+  plain = marks-length q t run ∙ sym (marks.good-sum q t run (length m) x (sym ev ∙ e))
 
   pub enough : sum x ≤ length u
   enough = omega (arith, ap length after, length-append (marksOf q t run) beyond, plain)
@@ -60,20 +58,17 @@ module _ (q t run m : List ℕ) {v : Marked} (ev : v ≡ mark.mark q t run (leng
 
 -- ---- a call's ends
 module _ (q t run : List ℕ) (n k : ℕ) where
-  abbrev outside : Watched
-  outside = watched.Refused (record { cause = Window; place = 0 })
-
   leaves : (m : List ℕ) {r : WatchRefusal} → watched.Refused r ≡ watch q t run n k (length m) → m ≡ marksAfter q t run n k m
   unfolding marksAfter
   leaves m e = ap (marksBy q t run n k m) e
 
   module _ {b : Bool} (eb : b ≡ inRange n k) where
-    decided : (size : ℕ) {c : Bool} → b ≡ c → pick c (watchMarked (watchedOf q t run n k) (mark.mark q t run size)) outside ≡ watch q t run n k size
+    decided : (size : ℕ) {c : Bool} → b ≡ c → pick c (watchMarked (watchMarksOf q t run n k) (mark.mark q t run size)) outOfRange ≡ watch q t run n k size
     unfolding watch
-    decided size e = ap (λ (c : Bool). pick c (watchMarked (watchedOf q t run n k) (mark.mark q t run size)) outside) (sym e ∙ eb)
+    decided size e = ap (λ (c : Bool). pick c (watchMarked (watchMarksOf q t run n k) (mark.mark q t run size)) outOfRange) (sym e ∙ eb)
 
     module _ (h : not b ≡ true) where
-      pub range-refuses : (size : ℕ) → outside ≡ watch q t run n k size
+      pub range-refuses : (size : ℕ) → outOfRange ≡ watch q t run n k size
       range-refuses size = decided size (not-true b h)
 
       pub range-leaves : (m : List ℕ) → m ≡ marksAfter q t run n k m
@@ -84,28 +79,27 @@ module _ (q t run : List ℕ) (n k : ℕ) where
       window-some = range-says n k .to (sym eb ∙ not-false b h) .0 .0
 
       module _ (m : List ℕ) {v : Marked} (ev : v ≡ mark.mark q t run (length m)) where
-        as-mark : {w : Marked} → v ≡ w → watchMarked (watchedOf q t run n k) w ≡ watch q t run n k (length m)
-        as-mark e = ap (watchMarked (watchedOf q t run n k)) (sym e ∙ ev) ∙ decided (length m) (not-false b h)
+        as-mark : {w : Marked} → v ≡ w → watchMarked (watchMarksOf q t run n k) w ≡ watch q t run n k (length m)
+        as-mark e = ap (watchMarked (watchMarksOf q t run n k)) (sym e ∙ ev) ∙ decided (length m) (not-false b h)
 
         module _ {r : MarkRefusal} (e : v ≡ marked.Refused r) where
           pub mark-refuses : watched.Refused (record { cause = Mark (r .cause); place = r .place }) ≡ watch q t run n k (length m)
           mark-refuses = as-mark e
 
           pub mark-leaves : {u : List ℕ} → u ≡ mark.marksAfter q t run m → u ≡ marksAfter q t run n k m
-          unfolding mark.marksAfter
-          mark-leaves eu = eu ∙ ap (mark.marksBy q t run m) (sym ev ∙ e) ∙ leaves m mark-refuses
+          mark-leaves eu = eu ∙ marks.refused-leaves q t run m r (sym ev ∙ e) ∙ leaves m mark-refuses
 
         module _ {x : Totals} (e : v ≡ marked.Totals x) {u : List ℕ} (eu : u ≡ mark.marksAfter q t run m) where
-          marked-plain : window.watched n k (take (sum x) u) ≡ watchedOf q t run n k
-          marked-plain = ap (window.watched n k) (plain-marks q t run m ev e eu)
+          marked-plain : window.watchMarks n k (take (sum x) u) ≡ watchMarksOf q t run n k
+          marked-plain = ap (window.watchMarks n k) (plain-marks q t run m ev e eu)
 
-          pub good-totals : {y : WatchTotals} → y ≡ totalsOf (window.watched n k (take (sum x) u)) → watched.Totals y ≡ watch q t run n k (length m)
+          pub good-totals : {y : WatchTotals} → y ≡ totalsOf (window.watchMarks n k (take (sum x) u)) → watched.Totals y ≡ watch q t run n k (length m)
           good-totals ey = ap watched.Totals (ey ∙ ap totalsOf marked-plain) ∙ as-mark e
 
-          pub good-marks : {y : List ℕ} → y ≡ window.watched n k (take (sum x) u) ++ drop (sum x) u → y ≡ marksAfter q t run n k m
+          pub good-marks : {y : List ℕ} → y ≡ window.watchMarks n k (take (sum x) u) ++ drop (sum x) u → y ≡ marksAfter q t run n k m
           unfolding marksAfter
           good-marks ey =
               ey
               ∙ ap (λ (l : List ℕ). l ++ drop (sum x) u) marked-plain
-              ∙ ap (λ (l : List ℕ). watchedOf q t run n k ++ l) (bytes-beyond q t run m ev e eu)
+              ∙ ap (λ (l : List ℕ). watchMarksOf q t run n k ++ l) (bytes-beyond q t run m ev e eu)
               ∙ ap (marksBy q t run n k m) (as-mark e)

@@ -10,16 +10,16 @@ use Rattle.base.specs.Pick.{pick}
 use Rattle.base.proofs.Lists.{left-next}
 use Rattle.run.specs.Totals.{count}
 use Rattle.run.proofs.Counts.{one, one-small, count-none, count-next, count-small}
-use Rattle.watch.specs.Window.{isOne, included, windowMark, watchedFrom, watched}
+use Rattle.watch.specs.Window.{isOne, included, windowMark, watchMarksFrom, watchMarks}
 use Rattle.watch.specs.Watch.{totalsOf}
 use Rattle.watch.proofs.Marks.{from-none, from-next, from-length, from-sum}
 
 -- `size` marks of the list `old` are plain, the others stand beyond; `held` of the window that ends before `left` are included
 pub record Passing (n k : ℕ) (old : List ℕ) (size left : ℕ) (m : List ℕ) (held ones : ℕ) : Type 0 where
   pub plain : take left m ≡ take left old
-  pub done : drop left m ≡ watchedFrom n k (take size old) left (size - left) ++ drop size old
+  pub done : drop left m ≡ watchMarksFrom n k (take size old) left (size - left) ++ drop size old
   pub window : held ≡ included n (take left m)
-  pub counts : ones ≡ count isOne (watchedFrom n k (take size old) left (size - left))
+  pub counts : ones ≡ count isOne (watchMarksFrom n k (take size old) left (size - left))
   pub inside : left ≤ size
   pub room : size ≤ length old
   pub same : length m ≡ length old
@@ -27,14 +27,14 @@ pub record Passing (n k : ℕ) (old : List ℕ) (size left : ℕ) (m : List ℕ)
 module _ (n k : ℕ) (old : List ℕ) (size : ℕ) where
   -- the watch's marks from a place on
   abbrev from : ℕ → List ℕ
-  from left = watchedFrom n k (take size old) left (size - left)
+  from left = watchMarksFrom n k (take size old) left (size - left)
 
   from-all : from size ≡ []
-  from-all = ap (watchedFrom n k (take size old) size) (let z : size - size ≡ 0 = omega arith in z) ∙ from-none n k (take size old) size
+  from-all = ap (watchMarksFrom n k (take size old) size) (let z : size - size ≡ 0 = omega arith in z) ∙ from-none n k (take size old) size
 
   from-one : (j : ℕ) → j < size → from j ≡ windowMark n k (take (j + 1) (take size old)) ∷ from (j + 1)
   from-one j h =
-      ap (watchedFrom n k (take size old) j) (let z : size - j ≡ suc (size - (j + 1)) = omega arith in z)
+      ap (watchMarksFrom n k (take size old) j) (let z : size - j ≡ suc (size - (j + 1)) = omega arith in z)
       ∙ from-next n k (take size old) j (size - (j + 1))
 
   pub passing-begins : size ≤ length old → {held : ℕ} → held ≡ included n (take size old) → Passing n k old size size old held 0
@@ -129,16 +129,16 @@ module _ (n k : ℕ) (old : List ℕ) (size : ℕ) where
       ended : left ≡ 0
       ended = omega arith
 
-      all : from left ≡ watched n k (take size old)
+      all : from left ≡ watchMarks n k (take size old)
       all =
           ap from ended
-          ∙ ap (watchedFrom n k (take size old) 0) (let z : size - 0 ≡ length (take size old) = omega (arith, length-take-le size old (w .room)) in z)
+          ∙ ap (watchMarksFrom n k (take size old) 0) (let z : size - 0 ≡ length (take size old) = omega (arith, length-take-le size old (w .room)) in z)
 
       zeros-left : size - ones ≡ totalsOf (from left) .zeros
       zeros-left = omega (arith, w .counts, from-sum n k (take size old) left (size - left))
 
-      pub passing-totals : record { ones = ones; zeros = size - ones } ≡ totalsOf (watched n k (take size old))
+      pub passing-totals : record { ones = ones; zeros = size - ones } ≡ totalsOf (watchMarks n k (take size old))
       passing-totals = rw (zeros-left, w .counts) (ap totalsOf all)
 
-      pub passing-marks : m ≡ watched n k (take size old) ++ drop size old
+      pub passing-marks : m ≡ watchMarks n k (take size old) ++ drop size old
       passing-marks = ap (λ (i : ℕ). drop i m) (sym ended) ∙ w .done ∙ ap (λ (l : List ℕ). l ++ drop size old) all

@@ -16,7 +16,7 @@ use Rattle.watch.specs.declared.refusal.WatchCause.{WatchCause}
 use Rattle.watch.specs.declared.refusal.WatchCause.the-variants.{Window, Mark}
 use Rattle.watch.specs.declared.refusal.Watched.{Watched}
 use Rattle.watch.specs.declared.refusal.Watched.the-variants.{Totals, Refused}
-use Rattle.watch.specs.Window.{isOne, isZero, watched}
+use Rattle.watch.specs.Window.{isOne, isZero, watchMarks}
 
 abbrev pub numberOf : WatchCause → ℕ
 numberOf Window = 42
@@ -31,22 +31,25 @@ abbrev pub totalsOf : (marks : List ℕ) → WatchTotals
 totalsOf ms = record { ones = count isOne ms; zeros = count isZero ms }
 
 -- "the marks equal those worked out from the plain marks for every run"
-abbrev pub watchedOf : (query table run : List ℕ) (window need : ℕ) → List ℕ
-watchedOf q t run n k = watched n k (marksOf q t run)
+abbrev pub watchMarksOf : (query table run : List ℕ) (window need : ℕ) → List ℕ
+watchMarksOf q t run n k = watchMarks n k (marksOf q t run)
 
 -- "refused as mark": with mark's cause and place
 abbrev pub watchMarked : (marks : List ℕ) → Marked → Watched
 watchMarked ms (marked.Refused r) = Refused (record { cause = Mark (r .cause); place = r .place })
 watchMarked ms (marked.Totals x) = Totals (totalsOf ms)
 
+abbrev pub outOfRange : Watched
+outOfRange = Refused (record { cause = Window; place = 0 })
+
 -- the range before all else; `size` is the marks' length
 unfoldable pub watch : (query table run : List ℕ) (window need size : ℕ) → Watched
-watch q t run n k size = pick (inRange n k) (watchMarked (watchedOf q t run n k) (mark.mark q t run size)) (Refused (record { cause = Window; place = 0 }))
+watch q t run n k size = pick (inRange n k) (watchMarked (watchMarksOf q t run n k) (mark.mark q t run size)) outOfRange
 
 -- the marks after a call: as they were where it is refused; else a mark for each instance, and "bytes beyond keep their values"
 abbrev pub marksBy : (query table run : List ℕ) (window need : ℕ) (marks : List ℕ) → Watched → List ℕ
 marksBy q t run n k m (Refused r) = m
-marksBy q t run n k m (Totals x) = watchedOf q t run n k ++ drop (length (instancesOf run)) m
+marksBy q t run n k m (Totals x) = watchMarksOf q t run n k ++ drop (length (instancesOf run)) m
 
 unfoldable pub marksAfter : (query table run : List ℕ) (window need : ℕ) (marks : List ℕ) → List ℕ
 marksAfter q t run n k m = marksBy q t run n k m (watch q t run n k (length m))

@@ -29,9 +29,9 @@ abbrev pub windowMark : (window need : ℕ) (plain : List ℕ) → ℕ
 windowMark n k ms = pick (leb k (included n ms)) 1 0
 
 -- so many marks, from that of the j-th instance on
-unfoldable pub watchedFrom : (window need : ℕ) (plain : List ℕ) (j size : ℕ) → List ℕ
-watchedFrom n k ms j zero = []
-watchedFrom n k ms j (suc size) = windowMark n k (take (j + 1) ms) ∷ watchedFrom n k ms (j + 1) size
+unfoldable pub watchMarksFrom : (window need : ℕ) (plain : List ℕ) (j size : ℕ) → List ℕ
+watchMarksFrom n k ms j zero = []
+watchMarksFrom n k ms j (suc size) = windowMark n k (take (j + 1) ms) ∷ watchMarksFrom n k ms (j + 1) size
 
-abbrev pub watched : (window need : ℕ) (plain : List ℕ) → List ℕ
-watched n k ms = watchedFrom n k ms 0 (length ms)
+abbrev pub watchMarks : (window need : ℕ) (plain : List ℕ) → List ℕ
+watchMarks n k ms = watchMarksFrom n k ms 0 (length ms)

@@ -6,7 +6,7 @@ ghost use Prim.Native.Nat.{_+_, _≤_, _<_};
 ghost use lib.ListN.{length, take, drop};
 ghost use lib.Dec.{leb};
 ghost use Rattle.base.specs.Pick.{pick};
-ghost use Rattle.watch.specs.Window.{isOne, included, watched};
+ghost use Rattle.watch.specs.Window.{isOne, included, watchMarks};
 ghost use Rattle.watch.specs.Watch.{totalsOf};
 
 // 1 for a mark of 1, else 0: neither 0 nor 255 counts.
@@ -16,7 +16,7 @@ fn one_of(mark: u8) -> usize
     (mark == 1) as usize
 }
 
-fn mark_of(held: usize, need: usize) -> u8
+fn window_mark(held: usize, need: usize) -> u8
     ensures { λ r. ⌜ r ≡ pick (leb need held) 1 0 ⌝ }
 {
     (need <= held) as u8
@@ -54,14 +54,14 @@ fn moved_before(marks: &[u8], end: usize, window: usize, held: usize) -> usize
 // Makes the first `count` marks, which are plain, those of the watch.
 pub(crate) fn watch_marks(marks: &mut [u8], count: usize, window: usize, need: usize) -> WatchTotals
     requires { ⌜ (count ≤ length (now marks)) × (1 ≤ window) ⌝ }
-    ensures { λ r. ⌜ (r ≡ totalsOf (watched window need (take count (now (marks .entry))))) × (now (marks .exit) ≡ watched window need (take count (now (marks .entry))) ++ drop count (now (marks .entry))) × (length (now (marks .exit)) ≡ length (now (marks .entry))) ⌝ }
+    ensures { λ r. ⌜ (r ≡ totalsOf (watchMarks window need (take count (now (marks .entry))))) × (now (marks .exit) ≡ watchMarks window need (take count (now (marks .entry))) ++ drop count (now (marks .entry))) × (length (now (marks .exit)) ≡ length (now (marks .entry))) ⌝ }
 {
     let mut held = included_before(marks, count, window);
     let mut left = count;
     let mut ones: usize = 0;
     while 0 < left {
         left -= 1;
-        let mark = mark_of(held, need);
+        let mark = window_mark(held, need);
         held = moved_before(marks, left, window, held);
         marks[left] = mark;
         ones += one_of(mark);

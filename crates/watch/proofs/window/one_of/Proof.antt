@@ -1,5 +1,5 @@
 use borrow.Author.Needs.{needs}
-use Rattle.watch.proofs.Counting as law
+use Rattle.base.proofs.Pick as law
 use Rattle.watch.proofs.window.one_of.Statement.{statement}
 use Rattle.watch.proofs.window.one_of.Tie as tie
 

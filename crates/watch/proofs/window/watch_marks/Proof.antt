@@ -20,8 +20,8 @@ loop-holds c = search law.passing-begins
 sub-left : tie.Need-sub-left Inv-loop μ-loop
 sub-left c = search needs
 
-mark-of-requires : tie.Need-mark-of-requires Inv-loop μ-loop
-mark-of-requires c κs = search needs
+window-mark-requires : tie.Need-window-mark-requires Inv-loop μ-loop
+window-mark-requires c κs = search needs
 
 moved-before-requires : tie.Need-moved-before-requires Inv-loop μ-loop
 moved-before-requires c κs = (search law.passing-room, search needs, search law.passing-window)
@@ -33,7 +33,7 @@ one-of-requires : tie.Need-one-of-requires Inv-loop μ-loop
 one-of-requires c κs = search needs
 
 add-ones : tie.Need-add-ones Inv-loop μ-loop
-add-ones c = let m = law.passing-fits _ _ _ _ _ _ _ _ (c .before .before .before .before .before .loop .inv) (c .before .before .before .before .loop-test .taken) (c .before .before .before .mark-of .result) (c .one-of .ensures) in omega arith
+add-ones c = let m = law.passing-fits _ _ _ _ _ _ _ _ (c .before .before .before .before .before .loop .inv) (c .before .before .before .before .loop-test .taken) (c .before .before .before .window-mark .result) (c .one-of .ensures) in omega arith
 
 loop-less : tie.Need-loop-less Inv-loop μ-loop
 loop-less c = search needs
@@ -59,7 +59,7 @@ watch-marks-spec =
     included-before-requires
     loop-holds
     sub-left
-    mark-of-requires
+    window-mark-requires
     moved-before-requires
     slice-write-marks
     one-of-requires
