@@ -5,39 +5,40 @@ mod common;
 use std::collections::BTreeMap;
 
 use common::often::assert_often;
-use common::{agree_on_marks, agree_on_watch};
-use reference::cases::call;
+use common::{agree_on_marks, agree_on_watch, shown_watch};
+use reference::cases::run::RunCase;
 use reference::cases::watch::{random, WatchCase};
 use reference::examples::watches;
 use reference::random::{for_each_seed, Random};
-use reference::{Refusal, WatchTotals};
+use reference::{Refusal, Totals, WatchTotals};
 
 const CASES: usize = 5_000;
 const LONGEST_WINDOW: u64 = 64;
 
 type Watched = (Result<WatchTotals, Refusal>, Vec<u8>);
 
-/// The case with these window, need and marks.
-fn watch(case: &WatchCase, [window, need]: [u64; 2], marks: &[u8]) -> Watched {
-    agree_on_watch(&case.query, &case.table, &case.run, window, need, marks)
+/// The case with these marks before the call.
+fn watch(case: &WatchCase, marks: &[u8]) -> Watched {
+    let RunCase { query, table, run, .. } = &case.call;
+    agree_on_watch(query, table, run, case.window, case.need, marks)
 }
 
 /// What mark says of the same run, and the marks that it leaves.
-fn plain(case: &WatchCase) -> (Result<reference::Totals, Refusal>, Vec<u8>) {
-    agree_on_marks(&case.query, &case.table, &case.run, &case.marks)
+fn plain(call: &RunCase) -> (Result<Totals, Refusal>, Vec<u8>) {
+    agree_on_marks(&call.query, &call.table, &call.run, &call.marks)
 }
 
 fn shown(case: &WatchCase) -> String {
-    let slices = [&case.query[..], &case.table, &case.run, &case.marks];
-    format!("{} of {}: {}", case.need, case.window, call("agree_on_watch", &slices))
+    let RunCase { query, table, run, marks } = &case.call;
+    shown_watch([query, table, run, marks], [case.window, case.need])
 }
 
 #[test]
 fn of_the_examples() {
     for e in watches::examples() {
         let found = agree_on_watch(&e.query, &e.table, &e.run, e.window, e.need, &e.marks);
-        let shown = || call("agree_on_watch", &[&e.query, &e.table, &e.run, &e.marks]);
-        assert_eq!(found, (e.expected, e.left.clone()), "{} of {}: {}", e.need, e.window, shown());
+        let shown = || shown_watch([&e.query, &e.table, &e.run, &e.marks], [e.window, e.need]);
+        assert_eq!(found, (e.expected, e.left.clone()), "{}", shown());
     }
 }
 
@@ -91,13 +92,13 @@ impl Seen {
         self.longer_windows += usize::from(case.window > instances);
         self.long_runs += usize::from(instances > LONGEST_WINDOW);
         self.passed_with_failed += usize::from(instances > case.window && plain.contains(&fql::FAILED));
-        self.marks_beyond += usize::from(case.marks.len() > marks.len());
+        self.marks_beyond += usize::from(case.call.marks.len() > marks.len());
     }
 
     fn add_refusal(&mut self, case: &WatchCase, refusal: Refusal) {
         *self.refused.entry(refusal.number).or_default() += 1;
         if refusal.number == 42 {
-            let of_mark = plain(case).0;
+            let of_mark = plain(&case.call).0;
             self.refused_of_good_calls += usize::from(of_mark.is_ok());
             self.refused_of_bad_tables += usize::from(of_mark.is_err_and(|refusal| refusal.number == 2));
         }
@@ -127,25 +128,25 @@ impl Seen {
 
 /// Marks of a call that isn't refused: one for each instance, 0 or 1, as many as the totals say, whatever stood there.
 fn hold(case: &WatchCase, totals: WatchTotals, marks: &[u8]) -> usize {
-    let instances = reference::mark::instances(&case.run).unwrap().len();
+    let instances = reference::mark::instances(&case.call.run).unwrap().len();
     assert_eq!(totals.ones + totals.zeros, instances as u64, "{}", shown(case));
     let (own, beyond) = marks.split_at(instances);
     assert!(own.iter().all(|mark| *mark <= 1), "{}", shown(case));
     assert_eq!(own.iter().map(|mark| u64::from(*mark)).sum::<u64>(), totals.ones, "{}", shown(case));
-    assert_eq!(beyond, &case.marks[instances..], "{}", shown(case));
-    let inverted: Vec<u8> = case.marks.iter().map(|mark| !mark).collect();
-    let (again, others) = watch(case, [case.window, case.need], &inverted);
+    assert_eq!(beyond, &case.call.marks[instances..], "{}", shown(case));
+    let inverted: Vec<u8> = case.call.marks.iter().map(|mark| !mark).collect();
+    let (again, others) = watch(case, &inverted);
     assert_eq!((again, &others[..instances]), (Ok(totals), own), "{}", shown(case));
     instances
 }
 
 /// 42 exactly if window or need is out of its range, and otherwise what mark is refused with.
 fn hold_refusal(case: &WatchCase, refusal: Refusal, marks: &[u8]) {
-    assert_eq!(marks, case.marks, "{}", shown(case));
+    assert_eq!(marks, case.call.marks, "{}", shown(case));
     let in_range = (1..=LONGEST_WINDOW).contains(&case.window) && (1..=case.window).contains(&case.need);
     match in_range {
         false => assert_eq!(refusal, Refusal { number: 42, place: 0 }, "{}", shown(case)),
-        true => assert_eq!(Some(refusal), plain(case).0.err(), "{}", shown(case)),
+        true => assert_eq!(Some(refusal), plain(&case.call).0.err(), "{}", shown(case)),
     }
 }
 
@@ -153,10 +154,10 @@ fn run(r: &mut Random) {
     let mut seen = Seen::default();
     for _ in 0..CASES {
         let case = random(r);
-        match watch(&case, [case.window, case.need], &case.marks) {
+        match watch(&case, &case.call.marks) {
             (Ok(totals), marks) => {
                 let instances = hold(&case, totals, &marks);
-                seen.add_marks(&case, &marks[..instances], &plain(&case).1[..instances]);
+                seen.add_marks(&case, &marks[..instances], &plain(&case.call).1[..instances]);
             }
             (Err(refusal), marks) => {
                 hold_refusal(&case, refusal, &marks);
@@ -173,13 +174,13 @@ fn of_random_runs() {
 }
 
 /// A run that is longer than all windows, and of which some instances are included and some fail.
-fn long_run(r: &mut Random) -> WatchCase {
+fn long_run(r: &mut Random) -> RunCase {
     loop {
-        let case = random(r);
-        let totals = plain(&case).0.unwrap_or_default();
+        let call = random(r).call;
+        let totals = plain(&call).0.unwrap_or_default();
         let counts = [totals.included, totals.excluded, totals.failed];
         if counts.iter().sum::<u64>() > LONGEST_WINDOW && counts.iter().all(|count| *count > 10) {
-            return case;
+            return call;
         }
     }
 }
@@ -188,11 +189,11 @@ fn long_run(r: &mut Random) -> WatchCase {
 #[test]
 fn every_window_and_need() {
     for_each_seed(|r| {
-        let case = long_run(r);
+        let call = long_run(r);
         for window in 0..=LONGEST_WINDOW + 1 {
             for need in 0..=window + 1 {
-                let case = WatchCase { window, need, ..case.clone() };
-                match watch(&case, [window, need], &case.marks) {
+                let case = WatchCase { call: call.clone(), window, need };
+                match watch(&case, &case.call.marks) {
                     (Ok(totals), marks) => assert!(hold(&case, totals, &marks) > LONGEST_WINDOW as usize),
                     (Err(refusal), marks) => hold_refusal(&case, refusal, &marks),
                 }
@@ -205,9 +206,9 @@ fn every_window_and_need() {
 fn window_of_one(r: &mut Random) {
     let mut failed = 0;
     for _ in 0..CASES / 8 {
-        let case = random(r);
-        let (found, marks) = watch(&case, [1, 1], &case.marks);
-        let (totals, mut expected) = plain(&case);
+        let case = WatchCase { window: 1, need: 1, ..random(r) };
+        let (found, marks) = watch(&case, &case.call.marks);
+        let (totals, mut expected) = plain(&case.call);
         if let Ok(totals) = totals {
             let instances = (totals.included + totals.excluded + totals.failed) as usize;
             expected[..instances].iter_mut().filter(|mark| **mark == fql::FAILED).for_each(|mark| *mark = 0);

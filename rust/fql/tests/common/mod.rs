@@ -59,8 +59,13 @@ pub fn agree_on_watch(
     let totals = fql::watch(query, table, run, window, need, &mut found);
     let totals = totals.map(|t| WatchTotals { ones: t.ones, zeros: t.zeros }).map_err(refusal);
     let expected_totals = reference::watch(query, table, run, window, need, &mut expected);
-    let shown = || format!("{need} of {window}: {}", call("agree_on_watch", &[query, table, run, marks]));
+    let shown = || shown_watch([query, table, run, marks], [window, need]);
     same((totals, found), (expected_totals, expected), shown)
+}
+
+/// Window and need, and a line of a test with the query, table, run and marks of a watch.
+pub fn shown_watch(slices: [&[u8]; 4], [window, need]: [u64; 2]) -> String {
+    format!("{need} of {window}: {}", call("agree_on_watch", &slices))
 }
 
 /// The text at a fault as both show it.

@@ -8,21 +8,16 @@ use crate::record::write;
 
 #[derive(Clone)]
 pub struct WatchCase {
-    pub query: Vec<u8>,
-    pub table: Vec<u8>,
-    pub run: Vec<u8>,
+    pub call: RunCase,
     pub window: u64,
     pub need: u64,
-    /// The marks before the call.
-    pub marks: Vec<u8>,
 }
 
 pub fn random(r: &mut Random) -> WatchCase {
-    let RunCase { query, table, run, marks } =
-        if r.chance(4) { with_instances(r, number_of_instances) } else { of_stretches(r) };
-    let window = window(r, marks.len() as u64);
+    let call = if r.chance(4) { with_instances(r, number_of_instances) } else { of_stretches(r) };
+    let window = window(r, call.marks.len() as u64);
     let need = need(r, window);
-    WatchCase { query, table, run, window, need, marks }
+    WatchCase { call, window, need }
 }
 
 /// Half of the runs are longer than the longest window.
