@@ -10,6 +10,7 @@ use reference::cases::run::RunCase;
 use reference::cases::watch::{random, WatchCase};
 use reference::examples::watches;
 use reference::random::{for_each_seed, Random};
+use reference::watch::included_of_the_last;
 use reference::{Refusal, Totals, WatchTotals};
 
 const CASES: usize = 5_000;
@@ -66,6 +67,10 @@ struct Seen {
     /// An included instance is marked 0, an excluded one 1.
     zeros_of_included: usize,
     ones_of_excluded: usize,
+    /// Of the last at an instance exactly the need are included, or one fewer, and the need is more than half of a
+    /// window over 32: by chance alone such a count seldom comes up.
+    exactly_the_need: usize,
+    one_fewer: usize,
     /// The window has more instances than the run.
     longer_windows: usize,
     /// The run has more than the longest window.
@@ -88,6 +93,12 @@ impl Seen {
         self.ones_of_failed += of(1, fql::FAILED);
         self.zeros_of_included += of(0, fql::INCLUDED);
         self.ones_of_excluded += of(1, fql::EXCLUDED);
+        if case.window > 32 && case.need > case.window / 2 {
+            let included = |number: usize| included_of_the_last(case.window, &plain[..number]);
+            let with = |count: u64| (1..=plain.len()).filter(|number| included(*number) == count).count();
+            self.exactly_the_need += with(case.need);
+            self.one_fewer += with(case.need - 1);
+        }
         let instances = marks.len() as u64;
         self.longer_windows += usize::from(case.window > instances);
         self.long_runs += usize::from(instances > LONGEST_WINDOW);
@@ -112,6 +123,8 @@ impl Seen {
             ("a failed instance marked 1", self.ones_of_failed, 8_000),
             ("an included instance marked 0", self.zeros_of_included, 15_000),
             ("an excluded instance marked 1", self.ones_of_excluded, 15_000),
+            ("exactly the need included", self.exactly_the_need, 1_200),
+            ("one fewer included", self.one_fewer, 600),
             ("windows longer than the run", self.longer_windows, 300),
             ("runs longer than the longest window", self.long_runs, 1_200),
             ("runs longer than the window, with failed instances", self.passed_with_failed, 1_500),
@@ -173,14 +186,21 @@ fn of_random_runs() {
     for_each_seed(run);
 }
 
-/// A run that is longer than all windows, and of which some instances are included and some fail.
+/// A run that is longer than two of the longest windows. In the first all instances are included, so that each count
+/// comes up before its window has passed; in the second some are, some aren't, and some fail.
 fn long_run(r: &mut Random) -> RunCase {
+    const LONGEST: usize = LONGEST_WINDOW as usize;
     loop {
         let call = random(r).call;
-        let totals = plain(&call).0.unwrap_or_default();
-        let counts = [totals.included, totals.excluded, totals.failed];
-        if counts.iter().sum::<u64>() > LONGEST_WINDOW && counts.iter().all(|count| *count > 10) {
-            return call;
+        let (totals, marks) = plain(&call);
+        let Totals { included, excluded, failed } = totals.unwrap_or_default();
+        if included + excluded + failed > 2 * LONGEST_WINDOW {
+            let (first, second) = (&marks[..LONGEST], &marks[LONGEST..2 * LONGEST]);
+            let of = |window: &[u8], byte: u8| window.iter().filter(|mark| **mark == byte).count();
+            let mixed = [fql::INCLUDED, fql::EXCLUDED, fql::FAILED].iter().all(|byte| of(second, *byte) > 4);
+            if of(first, fql::INCLUDED) == LONGEST && mixed {
+                return call;
+            }
         }
     }
 }
@@ -193,8 +213,8 @@ fn every_window_and_need() {
         for window in 0..=LONGEST_WINDOW + 1 {
             for need in 0..=window + 1 {
                 let case = WatchCase { call: call.clone(), window, need };
-                match watch(&case, &case.call.marks) {
-                    (Ok(totals), marks) => assert!(hold(&case, totals, &marks) > LONGEST_WINDOW as usize),
+                match watch(&case, &call.marks) {
+                    (Ok(totals), marks) => assert!(hold(&case, totals, &marks) > 2 * LONGEST_WINDOW as usize),
                     (Err(refusal), marks) => hold_refusal(&case, refusal, &marks),
                 }
             }

@@ -32,7 +32,7 @@ pub fn watch(
 }
 
 /// What mark writes for the instances into so many marks, or its refusal.
-fn plain_marks(query: &[u8], table: &[u8], run: &[u8], length: usize) -> Result<Vec<u8>, Refusal> {
+pub fn plain_marks(query: &[u8], table: &[u8], run: &[u8], length: usize) -> Result<Vec<u8>, Refusal> {
     let mut plain = vec![0; length];
     let totals = mark(query, table, run, &mut plain)?;
     plain.truncate((totals.included + totals.excluded + totals.failed) as usize);
@@ -40,7 +40,7 @@ fn plain_marks(query: &[u8], table: &[u8], run: &[u8], length: usize) -> Result<
 }
 
 /// "Before n have passed, those that there are count. An instance that would be marked 255 counts as not included."
-fn included_of_the_last(window: u64, so_far: &[u8]) -> u64 {
+pub fn included_of_the_last(window: u64, so_far: &[u8]) -> u64 {
     let last = &so_far[so_far.len().saturating_sub(window as usize)..];
     last.iter().filter(|mark| **mark == INCLUDED).count() as u64
 }
