@@ -7,7 +7,7 @@ use std::collections::BTreeMap;
 use common::often::assert_often;
 use common::{agree_on_marks, agree_on_watch, shown_watch};
 use reference::cases::run::RunCase;
-use reference::cases::watch::{random, WatchCase};
+use reference::cases::watch::{of_one_flag, random, WatchCase};
 use reference::examples::watches;
 use reference::random::{for_each_seed, Random};
 use reference::watch::included_of_the_last;
@@ -220,6 +220,32 @@ fn every_window_and_need() {
             }
         }
     });
+}
+
+/// More instances than two bytes can count, and marks beyond that no watch writes.
+fn very_long_run(r: &mut Random) {
+    const INSTANCES: usize = 80_000;
+    const OF_TWO_BYTES: usize = 1 << 16;
+    let RunCase { query, table, run, mut marks } = of_one_flag(r, INSTANCES, 3);
+    marks[INSTANCES..].fill(7);
+    for [window, need] in [[1, 1], [3, 2], [64, 20], [64, 64]] {
+        let (mut found, mut expected) = (marks.clone(), marks.clone());
+        let totals = fql::watch(&query, &table, &run, window, need, &mut found).unwrap();
+        let expected_totals = reference::watch(&query, &table, &run, window, need, &mut expected).unwrap();
+        // The run is too long to be shown.
+        let differs = found.iter().zip(&expected).position(|(found, expected)| found != expected);
+        assert_eq!(differs, None, "the first mark that differs at {need} of {window}");
+        assert_eq!((totals.ones, totals.zeros), (expected_totals.ones, expected_totals.zeros), "{need} of {window}");
+        assert_eq!(found[INSTANCES..], marks[INSTANCES..], "{need} of {window}");
+        let late = |byte: u8| found[OF_TWO_BYTES..INSTANCES].iter().filter(|mark| **mark == byte).count();
+        println!("{need} of {window}: {} late ones, {} late zeros", late(1), late(0));
+        assert_often(&[("late ones", late(1), 300), ("late zeros", late(0), 300)]);
+    }
+}
+
+#[test]
+fn of_a_very_long_run() {
+    for_each_seed(very_long_run);
 }
 
 /// With a window of 1 the marks are the plain ones, 0 in place of 255.
