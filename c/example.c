@@ -54,7 +54,7 @@ static void mark(const char *filter, const buffer *table, const buffer *run) {
     printf("  %d included, %d excluded, %d failed\n", (int)totals.included, (int)totals.excluded, (int)totals.failed);
 }
 
-/* Tells where a filter has held for a while: one instance alone calls nobody, two of the last three do. */
+/* Tells at which instances enough of the last are included: two of the last three, so that one alone is not enough. */
 static void watch(const char *filter, const buffer *table, const buffer *run) {
     uint8_t marks[8] = {0};
     fql_watched watched = fql_watch(bytes_of(filter), strlen(filter), table->bytes, table->length,

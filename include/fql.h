@@ -144,12 +144,15 @@ fql_answer fql_evaluate(const uint8_t *query, size_t query_length, const uint8_t
 fql_totals fql_mark(const uint8_t *query, size_t query_length, const uint8_t *table, size_t table_length,
                     const uint8_t *run, size_t run_length, uint8_t *marks, size_t marks_length);
 
-/* Writes 1 for an instance of the run if at least need of the last window instances, up to and with it, are included,
-   else 0: whether the filter has held for a while. Before so many have passed, those that there are count, so the marks
-   are 0 until need of them are included. An instance that fql_mark would mark FQL_FAILED takes its place among the last
-   and counts as not included; its own mark is 1 or 0 like any other. The window is from 1 to 64, and the need from 1 to
-   the window; all else is refused with FQL_WINDOW, whatever the other bytes are, and then a call is refused as fql_mark
-   refuses it. Marks beyond the run's instances keep their values, and a refused call leaves all as they were. */
+/* Whether enough of the last instances are included: writes 1 for an instance of the run if at least need of the last
+   window instances, up to and with it, are included, else 0. Before so many have passed, those that there are count, so
+   the marks are 0 until need of them are included. An instance that fql_mark would mark FQL_FAILED takes its place
+   among the last and counts as not included; its own mark is 1 or 0 like any other. The window is from 1 to 64, and the
+   need from 1 to the window; all else is refused with FQL_WINDOW, whatever the bytes are, and then a call is refused as
+   fql_mark refuses it. Marks beyond the run's instances keep their values, and a refused call leaves all as they were.
+
+   A window doesn't reach into an earlier call. To go on over batches, lend the last window - 1 instances again in front
+   of the next ones, and ignore the marks that those get there. */
 fql_watched fql_watch(const uint8_t *query, size_t query_length, const uint8_t *table, size_t table_length,
                       const uint8_t *run, size_t run_length, uint64_t window, uint64_t need,
                       uint8_t *marks, size_t marks_length);

@@ -2,8 +2,8 @@
 //! `rt staticlib fql_export` writes.
 //!
 //! A filter is a query's text; a table says which properties a class has and of what [types]; an instance holds their
-//! values. Tables and instances are [records](record). Every function takes bytes of any content and length, allocates
-//! nothing and keeps nothing.
+//! values. Tables and instances are [records](record). Every function takes bytes of any content and length, and
+//! numbers of any size, allocates nothing and keeps nothing.
 //!
 //! ```
 //! use fql::record::{self, write};
@@ -145,13 +145,17 @@ pub fn mark(query: &[u8], table: &[u8], run: &[u8], marks: &mut [u8]) -> Result<
     }
 }
 
-/// Whether the query has held for a while: writes 1 for an instance of the run if at least `need` of the last `window`
-/// instances, up to and with it, are included, else 0.
+/// Whether enough of the last instances are included: writes 1 for an instance of the run if at least `need` of the
+/// last `window` instances, up to and with it, are included, else 0.
 ///
-/// Before so many have passed, those that there are count. An instance that doesn't conform to the table takes its place
-/// among the last and counts as not included; its own mark is 1 or 0 like any other. The window is from 1 to 64 and the
-/// need from 1 to the window, or the call is refused with [`Cause::Window`], whatever the bytes are; then it is refused
-/// as [`mark`] is. Marks beyond the run's instances keep their values, and a refused call leaves all as they were.
+/// Before so many have passed, those that there are count. An instance that doesn't conform to the table takes its
+/// place among the last and counts as not included; its own mark is 1 or 0 like any other. The window is from 1 to 64
+/// and the need from 1 to the window, or the call is refused with [`Cause::Window`], whatever the bytes are; then it is
+/// refused as [`mark`] is. Marks beyond the run's instances keep their values, and a refused call leaves all as they
+/// were.
+///
+/// A window doesn't reach into an earlier call. To go on over batches, lend the last `window - 1` instances again in
+/// front of the next ones, and ignore the marks that those get there.
 ///
 /// ```
 /// use fql::{record, types, Cause, Refusal, WatchTotals};

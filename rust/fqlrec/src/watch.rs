@@ -1,4 +1,4 @@
-//! The marks of a watch over a run: whether a query has held for a while.
+//! The marks of a watch over a run: whether enough of the last instances are included.
 
 use crate::explain::{marks, Explanation};
 use crate::refused::refused;

@@ -1,4 +1,4 @@
-//! The watch over a run (02, Q-4): a mark says whether the filter held often enough of late.
+//! The watch over a run (02, Q-4): a mark says whether enough of the last instances are included.
 
 use crate::mark::mark;
 use crate::refusal::{require, Refusal};
