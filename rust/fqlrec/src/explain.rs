@@ -2,15 +2,10 @@
 
 use fql::{Cause, Refusal, Totals};
 
+use crate::explanation::{marks, Explanation};
 use crate::faulty::{in_instance, too_long, LONGEST_RUN};
 use crate::named::named;
 use crate::refused::refused;
-
-/// What is said, and whether query, table and run are accepted.
-pub struct Explanation {
-    pub accepted: bool,
-    pub text: String,
-}
 
 /// The refusal is what the program gives; its limit for a run is tried after the check.
 pub fn explain(query: &[u8], table: &[u8], run: &[u8]) -> Explanation {
@@ -22,11 +17,6 @@ pub fn explain(query: &[u8], table: &[u8], run: &[u8]) -> Explanation {
         Ok(totals) => Explanation { accepted: true, text: accepted(query, table, run, totals) },
         Err(refusal) => Explanation { accepted: false, text: refused(refusal, query, table, run) },
     }
-}
-
-/// Marks enough: a record has at least four bytes.
-pub fn marks(run: &[u8]) -> Vec<u8> {
-    vec![0; run.len() / 4]
 }
 
 /// The properties that the query names, the totals, and for each instance that fails its record at fault.

@@ -31,6 +31,7 @@
 
 mod columns;
 mod explain;
+mod explanation;
 mod faulty;
 mod hex;
 mod integer;
@@ -48,7 +49,8 @@ mod types;
 mod value;
 mod watch;
 
-pub use explain::{explain, Explanation};
+pub use explain::explain;
+pub use explanation::Explanation;
 pub use problem::Problem;
 pub use read::read;
 pub use show::show;

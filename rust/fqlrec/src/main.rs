@@ -61,10 +61,10 @@ fn print_text(folder: &Path) -> Result<(), String> {
     print(&show(&Files { table: load(&folder.join("table"))?, run: load(&folder.join("run"))? }))
 }
 
-/// Whether all is accepted.
-fn print_explanation(folder: &Path, explain: impl Fn(&[u8], &[u8], &[u8]) -> Explanation) -> Result<bool, String> {
+/// What a function of query, table and run says; whether all is accepted.
+fn print_explanation(folder: &Path, says: impl Fn(&[u8], &[u8], &[u8]) -> Explanation) -> Result<bool, String> {
     let [query, table, run] = ["query", "table", "run"].map(|name| load(&folder.join(name)));
-    let explanation = explain(&query?, &table?, &run?);
+    let explanation = says(&query?, &table?, &run?);
     print(&explanation.text)?;
     Ok(explanation.accepted)
 }

@@ -1,6 +1,6 @@
 //! The marks of a watch over a run: whether enough of the last instances are included.
 
-use crate::explain::{marks, Explanation};
+use crate::explanation::{marks, Explanation};
 use crate::refused::refused;
 
 /// A line for each instance, its number from 1 and its mark, and the totals. A run may be longer than the program's.
