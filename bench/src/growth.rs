@@ -7,7 +7,7 @@ use reference::record::write;
 
 pub fn run() {
     println!("\ngrowth of mark: nanoseconds for a call, and for each unit");
-    println!("{:30}{:>10}{:>14}{:>12}", "what grows", "units", "call", "each unit");
+    print_head("each unit");
     for n in [250, 500, 1_000, 2_000, 4_000, 8_000] {
         row("instances of the run", n, &Setting::small(n), b"Temp > 0");
     }
@@ -27,7 +27,7 @@ pub fn run() {
 fn row(what: &str, units: usize, setting: &Setting, query: &[u8]) {
     let mut marks = setting.marks();
     let call: Call = Box::new(|| fql::mark(query, &setting.table, &setting.run, &mut marks).unwrap().included);
-    print_row(what, units, measure(call));
+    print_row(what, units, measure(call), units);
 }
 
 fn text_row(what: &str, units: usize) {
@@ -35,9 +35,15 @@ fn text_row(what: &str, units: usize) {
     let run = write(INSTANCE, &write(STRING, "x".repeat(units).as_bytes()));
     let mut marks = [0];
     let call: Call = Box::new(|| fql::mark(b"S LIKE '[a-z]*'", &table, &run, &mut marks).unwrap().included);
-    print_row(what, units, measure(call));
+    print_row(what, units, measure(call), units);
 }
 
-fn print_row(what: &str, units: usize, call: f64) {
-    println!("{what:30}{units:>10}{call:>14.0}{:>12.1}", call / units as f64);
+/// The columns of a growth; the last is named by what a call's time is divided by.
+pub fn print_head(each: &str) {
+    println!("{:30}{:>10}{:>14}{each:>12}", "what grows", "units", "call");
+}
+
+/// So many units, a call's time, and it divided by a number.
+pub fn print_row(what: &str, units: usize, call: f64, divisor: usize) {
+    println!("{what:30}{units:>10}{call:>14.0}{:>12.1}", call / divisor as f64);
 }

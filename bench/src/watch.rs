@@ -2,6 +2,7 @@
 
 use crate::clock::{compare, Call};
 use crate::data::{filters, Setting};
+use crate::growth::{print_head, print_row};
 
 const WINDOW: u64 = 64;
 const NEED: u64 = 32;
@@ -60,8 +61,8 @@ fn over_windows(setting: &Setting) {
     }
     let times = compare(&mut ranges.map(|range| call(query, setting, range)));
     println!("\ngrowth of watch with the window, {count} instances: nanoseconds for a call, and for each instance");
-    println!("{:30}{:>10}{:>14}{:>15}", "what grows", "units", "call", "each instance");
+    print_head("an instance");
     for ([window, _], time) in ranges.into_iter().zip(times) {
-        println!("{:30}{window:>10}{time:>14.0}{:>15.1}", "instances of the window", time / count as f64);
+        print_row("instances of the window", window as usize, time, count);
     }
 }
