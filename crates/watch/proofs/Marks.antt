@@ -1,6 +1,6 @@
 -- The marks of a watch over plain marks: how many they are, each by its place, each 1 or 0.
-use Prim.Native.Nat.{ℕ, zero, suc, _+_, _≤_, _<_}
-use mathlib.Core.List.{List, [], _∷_}
+use Prim.Native.Nat.{ℕ, zero, suc, _+_, _-_, _≤_, _<_}
+use mathlib.Core.List.{List, [], _∷_, _++_}
 use mathlib.Core.Logic.{_↔_}
 use mathlib.Core.Bool.{Bool, true, false}
 use mathlib.Core.Path.{_≡_, refl, ap, _∙_}
@@ -12,7 +12,8 @@ use Rattle.base.specs.Pick.{pick}
 use Rattle.base.proofs.Pick.{picked-small, picked-one}
 use Rattle.run.specs.Totals.{count}
 use Rattle.run.proofs.Counts.{one, count-none, count-next}
-use Rattle.watch.specs.Window.{isOne, isZero, included, windowMark, watchMarksFrom, watchMarks}
+use Rattle.watch.specs.Window.{isOne, isZero, lastOf, included, windowMark, watchMarksFrom, watchMarks}
+use Rattle.watch.proofs.Windows.{last-before}
 
 -- "1 when at least k of the last n .. are included, else 0"
 pub one-exactly : (n k : ℕ) (ms : List ℕ) → (windowMark n k ms ≡ 1) ↔ (k ≤ included n ms)
@@ -24,6 +25,10 @@ one-exactly n k ms = (
 -- never 255
 pub one-at-most : (n k : ℕ) (ms : List ℕ) → windowMark n k ms ≤ 1
 one-at-most n k ms = picked-small (leb k (included n ms))
+
+-- a run taken up again behind its last n - 1 instances: the marks of those that follow are the same
+pub taken-up : (n k : ℕ) (before ms : List ℕ) → 1 ≤ n → 1 ≤ length ms → windowMark n k (before ++ ms) ≡ windowMark n k (lastOf (n - 1) before ++ ms)
+taken-up n k before ms g h = ap (λ (l : List ℕ). pick (leb k (count isOne l)) 1 0) (last-before n before ms g h)
 
 one-or-zero : (b : Bool) → one isOne (pick b 1 0) + one isZero (pick b 1 0) ≡ 1
 one-or-zero true = refl

@@ -1,11 +1,14 @@
 -- Windows over plain marks: which marks they hold, and how many of those are included when a window grows, or moves to the mark before.
 use Prim.Native.Nat.{ℕ, _+_, _-_, _≤_, _<_}
-use mathlib.Core.List.{List, [], _∷_, _++_}
-use mathlib.Core.Path.{_≡_, ap, _∙_}
+use mathlib.Core.List.{List, [], _∷_, _++_, append-assoc}
+use mathlib.Core.Bool.{Bool, true, false}
+use mathlib.Core.Path.{_≡_, refl, sym, ap, _∙_}
 use native.Mathlib.Omega.{arith}
 use native.Mathlib.Numerals.{add-one}
-use lib.ListN.{length, getD, take, drop, length-append, length-drop}
-use lib.Seq.{length-take-le, take-suc, drop-at, drop-append-le, getD-take}
+use lib.ListN.{length, getD, take, drop, length-append, length-drop, take-append-drop}
+use lib.Seq.{length-take-le, take-suc, drop-at, drop-append-le, drop-append-add, getD-take}
+use lib.Dec.{leb}
+use borrow.Author.Tests.{leb-true, leb-false}
 use Rattle.base.proofs.Lists.{at-end}
 use Rattle.run.specs.Totals.{count}
 use Rattle.run.proofs.Counts.{one, count-none, count-next, count-append, count-small, count-from}
@@ -17,6 +20,26 @@ last-all n ms h = ap (λ (i : ℕ). drop i ms) (let e : length ms - n ≡ 0 = om
 
 pub last-some : (n : ℕ) (before ms : List ℕ) → length ms ≡ n → lastOf n (before ++ ms) ≡ ms
 last-some n before ms h = drop-at before ms (length (before ++ ms) - n) (omega (arith, length-append before ms))
+
+-- marks in front of a whole window don't count
+last-behind : (n : ℕ) (before ms : List ℕ) → n ≤ length ms → lastOf n (before ++ ms) ≡ lastOf n ms
+last-behind n before ms h =
+    ap (λ (i : ℕ). drop i (before ++ ms)) (let e : length (before ++ ms) - n ≡ length before + (length ms - n) = omega (arith, length-append before ms) in e)
+    ∙ drop-append-add before ms (length ms - n)
+
+-- of the marks before some, a window that ends among these holds the last n - 1 at most: a run taken up again needs no more of what went before
+pub last-before : (n : ℕ) (before ms : List ℕ) → 1 ≤ n → 1 ≤ length ms → lastOf n (before ++ ms) ≡ lastOf n (lastOf (n - 1) before ++ ms)
+last-before n before ms g h = go (leb (length before) (n - 1)) refl
+  where
+    go : (b : Bool) → leb (length before) (n - 1) ≡ b → lastOf n (before ++ ms) ≡ lastOf n (lastOf (n - 1) before ++ ms)
+    go true e = ap (λ (l : List ℕ). lastOf n (l ++ ms)) (sym (last-all (n - 1) before (leb-true (length before) (n - 1) e)))
+    go false e =
+        let d = length before - (n - 1) in
+        let l = leb-false (length before) (n - 1) e in
+        let s : before ++ ms ≡ take d before ++ (drop d before ++ ms) =
+        ap (λ (x : List ℕ). x ++ ms) (sym (take-append-drop d before)) ∙ append-assoc (take d before) (drop d before) ms in
+        ap (lastOf n) s
+        ∙ last-behind n (take d before) (drop d before ++ ms) (omega (arith, length-append (drop d before) ms, length-drop d before))
 
 -- ---- a window of marks, one by one
 pub included-few : (n : ℕ) (ms : List ℕ) → included n ms ≤ n

@@ -9,7 +9,9 @@ use common::{agree_on_marks, agree_on_watch, shown_watch};
 use reference::cases::run::RunCase;
 use reference::cases::watch::{of_one_flag, random, WatchCase};
 use reference::examples::watches;
+use reference::kind::INSTANCE;
 use reference::random::{for_each_seed, Random};
+use reference::record::write;
 use reference::watch::included_of_the_last;
 use reference::{Refusal, Totals, WatchTotals};
 
@@ -270,4 +272,32 @@ fn window_of_one(r: &mut Random) {
 #[test]
 fn a_window_of_one_gives_the_plain_marks() {
     for_each_seed(window_of_one);
+}
+
+/// A run in two calls, the second with the last instances of the first in front, as many as the window has but one: of
+/// the others each has the mark that it has in one call. Fewer in front wouldn't do.
+fn two_batches(r: &mut Random) {
+    let [mut cuts, mut differences] = [0; 2];
+    for _ in 0..CASES / 8 {
+        let case = random(r);
+        let (Ok(_), whole) = watch(&case, &case.call.marks) else { continue };
+        let bodies = reference::mark::instances(&case.call.run).unwrap();
+        let cut = r.below(bodies.len() + 1);
+        let from = |start: usize| {
+            let run = bodies[start..].iter().flat_map(|body| write(INSTANCE, body)).collect();
+            let call = RunCase { run, marks: vec![7; bodies.len() - start], ..case.call.clone() };
+            watch(&WatchCase { call, ..case.clone() }, &vec![7; bodies.len() - start]).1[cut - start..].to_vec()
+        };
+        let again = (case.window as usize - 1).min(cut);
+        assert_eq!(from(cut - again), whole[cut..bodies.len()], "cut at {cut}: {}", shown(&case));
+        cuts += usize::from(again > 0 && cut < bodies.len());
+        differences += usize::from(again > 0 && from(cut - again + 1) != whole[cut..bodies.len()]);
+    }
+    println!("{cuts} cuts, {differences} differ with one fewer");
+    assert_often(&[("cuts", cuts, 150), ("cuts at which one fewer differs", differences, 10)]);
+}
+
+#[test]
+fn of_a_run_in_two_batches() {
+    for_each_seed(two_batches);
 }
