@@ -1,21 +1,20 @@
 -- Laws of digits and of the numbers they write, over the base and the number of digits.
-use mathlib.Core.Path.{_≡_, refl, sym, _∙_}
-use mathlib.Core.Bool.{Bool, true, false, _&&_}
+use mathlib.Core.Path.{_≡_, refl, sym, _∙_, subst}
+use mathlib.Core.Bool.{Bool, true, false}
 use mathlib.Core.List.{List}
 use mathlib.Core.Logic.{_⊎_, inl, inr}
 use Prim.Native.Nat.{ℕ, zero, suc, _+_, _-_, _*_, _/_, _^_, _≤_, _<_}
 use native.Mathlib.Numerals.{add-one}
-use native.Mathlib.Nat.{div-lt-iff-lt-mul, mul-one, mul-le-mul-left, mul-le-mul-right, eq-or-lt-of-le, le-of-suc-le-suc, pow-succ', pow-zero, pow-le-pow-right}
+use native.Mathlib.Nat.{div-lt-iff-lt-mul, mul-one, mul-le-mul-left, mul-le-mul-right, eq-or-lt-of-le, le-of-suc-le-suc, pow-succ', pow-zero}
 use native.Mathlib.Omega.{arith}
 use lib.Dec.{leb, ltb}
-use borrow.Author.Tests.{le-leb, lt-leb, leb-true, leb-false, lt-ltb, le-ltb, ltb-true}
-use Rattle.base.specs.Pick.{pick}
+use borrow.Author.Tests.{le-leb, lt-leb, leb-true, leb-false, lt-ltb, ltb-true}
 use Rattle.base.specs.Part.{byteAt}
 use Rattle.base.specs.Range.{within}
 use Rattle.base.specs.Digit.{digitOf, allDigits, valueOf, sizeUnder}
 use Rattle.base.specs.declared.digit.Size.{Size}
 use Rattle.base.specs.declared.digit.Size.the-variants.{Fits, TooLarge}
-use Rattle.base.proofs.Says.{and-both, and-false}
+use Rattle.base.proofs.Says.{and-both}
 
 -- the ends of a range
 pub within-low : (low high b : ℕ) → true ≡ within low high b → low ≤ b
@@ -31,28 +30,27 @@ pub digits-next : {d : ℕ} (base : ℕ) (s : List ℕ) (at i : ℕ) → allDigi
 unfolding allDigits
 digits-next base s at i h e l = rw (add-one i, h, ← e, lt-ltb _ _ l)
 
--- a byte that is no digit spoils every longer run
-pub digits-spoiled : {d : ℕ} (base : ℕ) (s : List ℕ) (at i n : ℕ) → i < n → d ≡ digitOf (byteAt s (at + i)) → base ≤ d → false ≡ allDigits base s at n
+-- each byte of a run of digits is one
+pub digit-in : (base : ℕ) (s : List ℕ) (at n i : ℕ) → allDigits base s at n ≡ true → i < n → ltb (digitOf (byteAt s (at + i))) base ≡ true
 unfolding allDigits
-digits-spoiled {d} base s at i zero h e l = absurd (no h)
+digit-in base s at zero i d l = absurd (none l)
   where
-    no : i < 0 → ⊥
-    no k = omega arith
-digits-spoiled {d} base s at i (suc n) h e l = go (eq-or-lt-of-le (le-of-suc-le-suc h)) (λ k. digits-spoiled base s at i n k e l)
+    none : i < 0 → ⊥
+    none k = omega arith
+digit-in base s at (suc n) i d l = go (eq-or-lt-of-le (le-of-suc-le-suc l)) (λ k. digit-in base s at n i (and-both _ _ d .0) k)
   where
-    go : (i ≡ n) ⊎ (i < n) → (i < n → false ≡ allDigits base s at n) → false ≡ (allDigits base s at n && ltb (digitOf (byteAt s (at + n))) base)
-    go (inl z) r = rw (← z, ← e, le-ltb d base l) (sym (and-false (allDigits base s at i)))
-    go (inr k) r = rw (← r k)
+    go : (i ≡ n) ⊎ (i < n) → (i < n → ltb (digitOf (byteAt s (at + i))) base ≡ true) → ltb (digitOf (byteAt s (at + i))) base ≡ true
+    go (inl e) r = rw e (and-both (allDigits base s at n) (ltb (digitOf (byteAt s (at + n))) base) d .1)
+    go (inr k) r = r k
 
--- the front of a run of digits
-pub digits-front : (base : ℕ) (s : List ℕ) (at m n : ℕ) → m ≤ n → allDigits base s at n ≡ true → allDigits base s at m ≡ true
+-- a part of a run of digits
+pub digits-inside : (base : ℕ) (s : List ℕ) (at n from m : ℕ) → at ≤ from → from + m ≤ at + n → allDigits base s at n ≡ true → allDigits base s from m ≡ true
 unfolding allDigits
-digits-front base s at m zero h d = let z : m ≡ 0 = omega arith in rw z d
-digits-front base s at m (suc n) h d = go (eq-or-lt-of-le h) (λ l. digits-front base s at m n l (and-both _ _ d .0))
-  where
-    go : (m ≡ suc n) ⊎ (m < suc n) → (m ≤ n → allDigits base s at m ≡ true) → allDigits base s at m ≡ true
-    go (inl e) r = rw e d
-    go (inr l) r = r (le-of-suc-le-suc l)
+digits-inside base s at n from zero g h d = refl
+digits-inside base s at n from (suc m) g h d =
+    let e : at + (from + m - at) ≡ from + m = omega arith in
+    let x = digit-in base s at n (from + m - at) d (omega arith) in
+    rw (digits-inside base s at n from m g (omega arith) d) (subst (λ (k : ℕ). ltb (digitOf (byteAt s k)) base ≡ true) e x)
 
 -- n digits of a base write a number below its n-th power
 pub value-below : (base : ℕ) (s : List ℕ) (at n : ℕ) → allDigits base s at n ≡ true → valueOf base 0 s at n < base ^ n
@@ -80,27 +78,6 @@ value-grows base v s at i (suc n) b h = go (eq-or-lt-of-le h) (λ l. value-grows
     go : (i ≡ suc n) ⊎ (i < suc n) → (i ≤ n → valueOf base v s at i ≤ valueOf base v s at n) → valueOf base v s at i ≤ valueOf base v s at n * base + digitOf (byteAt s (at + n))
     go (inl e) r = rw e (omega arith)
     go (inr l) r = omega (arith, r (le-of-suc-le-suc l), step-up base (valueOf base v s at n) (digitOf (byteAt s (at + n))) b)
-
--- so few digits write a number that fits 64 bits, whatever bytes they are
-digit-most : (b : ℕ) → digitOf b ≤ 16
-unfolding digitOf
-digit-most b = go (within 48 57 b) refl (within 65 70 b) refl (within 97 102 b) refl
-  where
-    go : (p : Bool) → within 48 57 b ≡ p → (q : Bool) → within 65 70 b ≡ q → (r : Bool) → within 97 102 b ≡ r → pick p (b - 48) (pick q (b - 55) (pick r (b - 87) 16)) ≤ 16
-    go true e q f r g = omega (arith, within-high 48 57 b (sym e))
-    go false e true f r g = omega (arith, within-high 65 70 b (sym f))
-    go false e false f true g = omega (arith, within-high 97 102 b (sym g))
-    go false e false f false g = omega arith
-
-value-most : (base : ℕ) (s : List ℕ) (at n : ℕ) → base ≤ 16 → valueOf base 0 s at n < 17 ^ n
-unfolding valueOf
-value-most base s at zero h = omega (arith, pow-zero 17)
-value-most base s at (suc n) h =
-    let v = value-most base s at n h in
-    omega (arith, pow-succ' 17 n, mul-le-mul-left (valueOf base 0 s at n) h, digit-most (byteAt s (at + n)))
-
-pub value-small : (base : ℕ) (s : List ℕ) (at n : ℕ) → base ≤ 16 → n ≤ 15 → valueOf base 0 s at n ≤ 0xffffffffffffffff
-value-small base s at n h k = omega (arith, value-most base s at n h, pow-le-pow-right {n = 17} (omega arith) {i = n} {j = 15} k)
 
 -- the loop's test says whether one more digit keeps the number within the limit
 pub fits-more : (base limit v d : ℕ) → 0 < base → d ≤ limit → v ≤ (limit - d) / base → v * base + d ≤ limit

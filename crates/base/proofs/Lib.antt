@@ -11,4 +11,4 @@ pub mod Examples
 pub mod Signed
 pub mod Operators
 pub mod Pick
-pub mod Decimal
+pub mod DecimalDigits

@@ -1,9 +1,9 @@
 // Digits of bases up to 16, and the numbers they write.
 use crate::bytes;
 ghost use mathlib.Core.Path.{_≡_};
-ghost use Prim.Native.Nat.{ℕ, _-_, _≤_, _<_};
+ghost use Prim.Native.Nat.{_-_, _≤_, _<_};
 ghost use lib.ListN.{length};
-ghost use Rattle.base.specs.Digit.{digitOf, allDigits, valueOf, sizeUnder};
+ghost use Rattle.base.specs.Digit.{digitOf, valueOf, sizeUnder};
 
 // A number that is at most some limit, or that one is above it.
 pub enum Size {
@@ -27,21 +27,6 @@ pub fn digit_of(b: u8) -> u64
     16
 }
 
-// Whether the `n` bytes from `at` on are digits of the base.
-pub fn all_digits(base: u64, s: &[u8], at: usize, n: usize) -> bool
-    requires { ⌜ n ≤ length (now s) - at ⌝ }
-    ensures { λ r. ⌜ r ≡ allDigits base (now (s .entry)) at n ⌝ }
-{
-    let mut i = 0;
-    while i < n {
-        if base <= digit_of(s[at + i]) {
-            return false;
-        }
-        i += 1;
-    }
-    true
-}
-
 // The number `first` with the `n` digits from `at` on written after it, if it is at most `limit`: any number of digits, without overflow.
 pub fn read_value(base: u64, first: u64, s: &[u8], at: usize, n: usize, limit: u64) -> Size
     requires { ⌜ (n ≤ length (now s) - at) × (0 < base) × (first ≤ limit) × (16 ≤ limit) ⌝ }
@@ -58,15 +43,4 @@ pub fn read_value(base: u64, first: u64, s: &[u8], at: usize, n: usize, limit: u
         i += 1;
     }
     Size::Fits(v)
-}
-
-// The number that so few digits write that it always fits.
-pub fn value_at(base: u64, s: &[u8], at: usize, n: usize) -> u64
-    requires { ⌜ (n ≤ length (now s) - at) × (0 < base) × (base ≤ 16) × (n ≤ 15) ⌝ }
-    ensures { λ r. ⌜ r ≡ valueOf base 0 (now (s .entry)) at n ⌝ }
-{
-    match read_value(base, 0, s, at, n, 0xffff_ffff_ffff_ffff) {
-        Size::Fits(v) => v,
-        Size::TooLarge => 0,
-    }
 }

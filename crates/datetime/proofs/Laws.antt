@@ -1,6 +1,6 @@
 -- One law for each exit of the functions that read a datetime, its premises in the order in which the code learns them.
-use mathlib.Core.Path.{_≡_, _∙_, sym}
-use mathlib.Core.Bool.{Bool, true, false, not, _&&_}
+use mathlib.Core.Path.{_≡_, refl, _∙_, sym}
+use mathlib.Core.Bool.{Bool, true, false, not, _&&_, _||_}
 use mathlib.Core.List.{List}
 use Prim.Native.Nat.{ℕ, _-_, _≤_, _<_}
 use lib.Dec.{eqb, leb}
@@ -18,7 +18,7 @@ use Rattle.datetime.specs.Calendar.{leapYear, daysInMonth}
 use Rattle.datetime.specs.Fields.{isDate, isTime}
 use Rattle.datetime.specs.Text.{shaped, dateIn, intervalDays, timeIn, signIn, minutesIn}
 use Rattle.datetime.specs.Moment.{daysBefore, elapsed, offsetOf, momentAt}
-use Rattle.datetime.specs.Datetime.{isSign, datetimeOf}
+use Rattle.datetime.specs.Datetime.{isSign, isTimestamp, isInterval, datetimeOf}
 use Rattle.datetime.specs.declared.fields.Date.{Date}
 use Rattle.datetime.specs.declared.fields.Time.{Time}
 use Rattle.datetime.specs.declared.Datetime.{Datetime}
@@ -105,17 +105,8 @@ module _ {r : Bool} (s : List ℕ) (shape : r ≡ shaped s) where
     told : Shaped s
     told = shape-of s (sym shape ∙ not-false r good)
 
-    pub shaped-length : length s ≡ 25
-    shaped-length = told .long
-
     pub sign-within : 21 < length s
     sign-within = rw (told .long) (omega arith)
-
-    pub minutes-within : 3 ≤ length s - 22
-    minutes-within = rw (told .long) (omega arith)
-
-    pub days-within : 8 ≤ length s - 0
-    days-within = rw (told .long) (omega arith)
 
     pub year-below : {d : Date} → d ≡ dateIn s → d .year < 10000
     year-below e = rw e (told .year)
@@ -147,3 +138,23 @@ module _ {r : Bool} (s : List ℕ) (shape : r ≡ shaped s) where
             a ≡ datetimeOf s
         unfolding datetimeOf
         timestamp-read h date e = rw (← shape, not-false r good, ← time, ← timed, not-false q in-time, ← minutes, ← date, ne-eqb _ _ h) e
+
+-- whether it is one
+or-false : (b : Bool) → b ≡ (b || false)
+or-false true = refl
+or-false false = refl
+
+module _ {r : Bool} (s : List ℕ) (shape : r ≡ shaped s) where
+  pub no-datetime : not r ≡ true → false ≡ (isTimestamp s || isInterval s)
+  no-datetime h = rw (← shape, not-true r h)
+
+  module _ (good : not r ≡ false) {t : Time} (time : t ≡ timeIn s) {q : Bool} (timed : q ≡ isTime t) where
+    pub out-of-time : not q ≡ true → false ≡ (isTimestamp s || isInterval s)
+    out-of-time h = rw (← shape, not-false r good, ← time, ← timed, not-true q h)
+
+    module _ (in-time : not q ≡ false) where
+      pub interval-by-tail : signIn s ≡ 58 → {m : ℕ} → m ≡ minutesIn s → eqb m 0 ≡ (isTimestamp s || isInterval s)
+      interval-by-tail h e = rw (← shape, not-false r good, ← time, ← timed, not-false q in-time, h, e)
+
+      pub timestamp-by-date : (signIn s ≡ 58 → ⊥) → {p : Bool} → p ≡ isSign (signIn s) → {d : Date} → d ≡ dateIn s → {b : Bool} → b ≡ isDate d → (p && b) ≡ (isTimestamp s || isInterval s)
+      timestamp-by-date h {p} ep ed {b} eb = rw (← shape, not-false r good, ← time, ← timed, not-false q in-time, ne-eqb _ _ h, ← ep, ← ed, ← eb) (or-false (p && b))

@@ -1,4 +1,4 @@
-// What a datetime's text says.
+// What a datetime's text says, and whether it says anything.
 use crate::Datetime;
 use crate::fields::Date;
 use crate::fields::Time;
@@ -10,16 +10,16 @@ use crate::moment::less_offset;
 use crate::text::date_in;
 use crate::text::is_shaped;
 use crate::text::time_in;
-use base::digit::value_at;
+use base::decimal::decimal_at;
 ghost use mathlib.Core.Path.{_≡_};
-ghost use mathlib.Core.Bool.{true, _&&_};
+ghost use mathlib.Core.Bool.{true, _&&_, _||_};
 ghost use Prim.Native.Nat.{_<_};
 ghost use lib.Dec.{eqb};
 ghost use lib.IntN.{pos};
 ghost use Rattle.base.specs.Pick.{pick};
 ghost use Rattle.datetime.specs.Fields.{isDate, isTime};
 ghost use Rattle.datetime.specs.Moment.{daysBefore, elapsed, offsetOf, momentAt};
-ghost use Rattle.datetime.specs.Datetime.{isSign, datetimeOf};
+ghost use Rattle.datetime.specs.Datetime.{isSign, isTimestamp, isInterval, datetimeOf};
 
 // Days and a time are an interval before `:000` only.
 fn make_interval(days: u64, t: Time, tail: u64) -> Datetime
@@ -65,9 +65,26 @@ pub fn read_datetime(s: &[u8]) -> Datetime
         return Datetime::Malformed;
     }
     let sign = s[21];
-    let minutes = value_at(10, s, 22, 3);
+    let minutes = decimal_at(s, 22, 3);
     if sign == b':' {
-        return make_interval(value_at(10, s, 0, 8), t, minutes);
+        return make_interval(decimal_at(s, 0, 8), t, minutes);
     }
     make_timestamp(date_in(s), t, sign, minutes)
+}
+
+// Whether a text is a timestamp or an interval: the tests of `read_datetime` without its moment.
+pub fn is_datetime(s: &[u8]) -> bool
+    ensures { λ r. ⌜ r ≡ (isTimestamp (now (s .entry)) || isInterval (now (s .entry))) ⌝ }
+{
+    if !is_shaped(s) {
+        return false;
+    }
+    if !is_time(time_in(s)) {
+        return false;
+    }
+    let sign = s[21];
+    if sign == b':' {
+        return decimal_at(s, 22, 3) == 0;
+    }
+    is_sign(sign) & is_date(date_in(s))
 }

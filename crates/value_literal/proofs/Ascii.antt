@@ -11,7 +11,7 @@ use borrow.Author.Tests.{eqb-true, eqb-false, ltb-true, ltb-false, ne-eqb}
 use Rattle.base.specs.Part.{part, byteAt}
 use Rattle.base.specs.Digit.{allDigits}
 use Rattle.base.proofs.Says.{and-both, and-false}
-use Rattle.base.proofs.Decimal.{decimal-digits}
+use Rattle.base.proofs.DecimalDigits.{decimal-digits}
 use Rattle.datetime.specs.Text.{shaped, timeIn, signIn}
 use Rattle.datetime.specs.Fields.{isTime}
 use Rattle.datetime.specs.Datetime.{datetimeOf}

@@ -1,4 +1,6 @@
-use Rattle.datetime.proofs.Laws.{passed, no-shape, shaped-length, sign-within, minutes-within, days-within, year-below, days-below, microsecond-below, minutes-below, no-time, interval-read, timestamp-read}
+use Rattle.datetime.proofs.Laws.{passed, no-shape, sign-within, year-below, days-below, microsecond-below, minutes-below, no-time, interval-read, timestamp-read}
+use native.Mathlib.Omega.{arith}
+use Rattle.datetime.proofs.Bounds.{before-point, after-sign}
 use borrow.Author.Needs.{needs}
 use Rattle.datetime.proofs.read.read_datetime.Statement.{statement}
 use Rattle.datetime.proofs.read.read_datetime.Tie as tie
@@ -10,7 +12,7 @@ returns : tie.Need-returns
 returns c = search no-shape
 
 time-in-requires : tie.Need-time-in-requires
-time-in-requires c κs = search shaped-length
+time-in-requires c κs = passed _ (c .before .is-shaped .ensures) (c .if1 .left)
 
 is-time-requires : tie.Need-is-time-requires
 is-time-requires c κs = search needs
@@ -21,11 +23,11 @@ returns-2 c = search no-time
 shared-slice-read-sign : tie.Need-shared-slice-read-sign
 shared-slice-read-sign c = search sign-within
 
-value-at-requires : tie.Need-value-at-requires
-value-at-requires c κs = (search minutes-within, search needs, search needs, search needs)
+decimal-at-requires : tie.Need-decimal-at-requires
+decimal-at-requires c κs = after-sign _ (passed _ (c .before .before .before .before .before .is-shaped .ensures) (c .before .before .before .before .if1 .left))
 
-value-at-requires-2 : tie.Need-value-at-requires-2
-value-at-requires-2 c κs = (search days-within, search needs, search needs, search needs)
+decimal-at-requires-2 : tie.Need-decimal-at-requires-2
+decimal-at-requires-2 c κs = before-point _ (passed _ (c .before .before .before .before .before .before .before .is-shaped .ensures) (c .before .before .before .before .before .before .if1 .left)) 0 8 (omega arith)
 
 make-interval-requires : tie.Need-make-interval-requires
 make-interval-requires c κs = (search days-below, search passed, search microsecond-below)
@@ -34,7 +36,7 @@ returns-3 : tie.Need-returns-3
 returns-3 c = search interval-read
 
 date-in-requires : tie.Need-date-in-requires
-date-in-requires c κs = search shaped-length
+date-in-requires c κs = passed _ (c .before .before .before .before .before .before .before .is-shaped .ensures) (c .before .before .before .before .before .before .if1 .left)
 
 make-timestamp-requires : tie.Need-make-timestamp-requires
 make-timestamp-requires c κs = (search year-below, search passed, search microsecond-below, search minutes-below)
@@ -52,8 +54,8 @@ read-datetime-spec =
     is-time-requires
     returns-2
     shared-slice-read-sign
-    value-at-requires
-    value-at-requires-2
+    decimal-at-requires
+    decimal-at-requires-2
     make-interval-requires
     returns-3
     date-in-requires

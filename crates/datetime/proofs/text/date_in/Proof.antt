@@ -1,21 +1,22 @@
 use Rattle.datetime.specs.Text.{dateIn}
-use borrow.Author.Needs.{needs}
+use native.Mathlib.Omega.{arith}
+use Rattle.datetime.proofs.Bounds.{before-point}
 use Rattle.datetime.proofs.text.date_in.Statement.{statement}
 use Rattle.datetime.proofs.text.date_in.Tie as tie
 
-value-at-requires : tie.Need-value-at-requires
-value-at-requires c κs = search needs
+decimal-at-requires : tie.Need-decimal-at-requires
+decimal-at-requires c κs = before-point _ (c .before .pre) 0 4 (omega arith)
 
-value-at-requires-2 : tie.Need-value-at-requires-2
-value-at-requires-2 c κs = search needs
+decimal-at-requires-2 : tie.Need-decimal-at-requires-2
+decimal-at-requires-2 c κs = before-point _ (c .before .before .pre) 4 2 (omega arith)
 
-value-at-requires-3 : tie.Need-value-at-requires-3
-value-at-requires-3 c κs = search needs
+decimal-at-requires-3 : tie.Need-decimal-at-requires-3
+decimal-at-requires-3 c κs = before-point _ (c .before .before .before .pre) 6 2 (omega arith)
 
 returns : tie.Need-returns
 unfolding dateIn
-returns c = rw (c .before .before .value-at .ensures, c .before .value-at2 .ensures, c .value-at3 .ensures)
+returns c = rw (c .before .before .decimal-at .ensures, c .before .decimal-at2 .ensures, c .decimal-at3 .ensures)
 
 pub date-in-spec : {M : Type 1} → statement M
 date-in-spec =
-    tie.close (tie.spec value-at-requires value-at-requires-2 value-at-requires-3 returns)
+    tie.close (tie.spec decimal-at-requires decimal-at-requires-2 decimal-at-requires-3 returns)

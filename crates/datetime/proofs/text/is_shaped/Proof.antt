@@ -12,20 +12,20 @@ shared-slice-read-if2 c = search needs
 returns-2 : tie.Need-returns-2
 returns-2 c = search no-point
 
-all-digits-requires : tie.Need-all-digits-requires
-all-digits-requires c κs = search needs
+all-decimal-requires : tie.Need-all-decimal-requires
+all-decimal-requires c κs = search needs
 
 returns-3 : tie.Need-returns-3
 returns-3 c = search no-first-digits
 
-all-digits-requires-2 : tie.Need-all-digits-requires-2
-all-digits-requires-2 c κs = search needs
+all-decimal-requires-2 : tie.Need-all-decimal-requires-2
+all-decimal-requires-2 c κs = search needs
 
 returns-4 : tie.Need-returns-4
 returns-4 c = search no-microseconds
 
-all-digits-requires-3 : tie.Need-all-digits-requires-3
-all-digits-requires-3 c κs = search needs
+all-decimal-requires-3 : tie.Need-all-decimal-requires-3
+all-decimal-requires-3 c κs = search needs
 
 returns-5 : tie.Need-returns-5
 returns-5 c = search offset-digits
@@ -37,9 +37,9 @@ is-shaped-spec =
     returns
     shared-slice-read-if2
     returns-2
-    all-digits-requires
+    all-decimal-requires
     returns-3
-    all-digits-requires-2
+    all-decimal-requires-2
     returns-4
-    all-digits-requires-3
+    all-decimal-requires-3
     returns-5)

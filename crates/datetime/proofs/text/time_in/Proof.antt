@@ -1,30 +1,31 @@
 use Rattle.datetime.specs.Text.{timeIn}
-use borrow.Author.Needs.{needs}
+use native.Mathlib.Omega.{arith}
+use Rattle.datetime.proofs.Bounds.{before-point, after-point}
 use Rattle.datetime.proofs.text.time_in.Statement.{statement}
 use Rattle.datetime.proofs.text.time_in.Tie as tie
 
-value-at-requires : tie.Need-value-at-requires
-value-at-requires c κs = search needs
+decimal-at-requires : tie.Need-decimal-at-requires
+decimal-at-requires c κs = before-point _ (c .before .pre) 8 2 (omega arith)
 
-value-at-requires-2 : tie.Need-value-at-requires-2
-value-at-requires-2 c κs = search needs
+decimal-at-requires-2 : tie.Need-decimal-at-requires-2
+decimal-at-requires-2 c κs = before-point _ (c .before .before .pre) 10 2 (omega arith)
 
-value-at-requires-3 : tie.Need-value-at-requires-3
-value-at-requires-3 c κs = search needs
+decimal-at-requires-3 : tie.Need-decimal-at-requires-3
+decimal-at-requires-3 c κs = before-point _ (c .before .before .before .pre) 12 2 (omega arith)
 
-value-at-requires-4 : tie.Need-value-at-requires-4
-value-at-requires-4 c κs = search needs
+decimal-at-requires-4 : tie.Need-decimal-at-requires-4
+decimal-at-requires-4 c κs = after-point _ (c .before .before .before .before .pre)
 
 returns : tie.Need-returns
 unfolding timeIn
-returns c = rw (c .before .before .before .value-at .ensures, c .before .before .value-at2 .ensures, c .before .value-at3 .ensures, c .value-at4 .ensures)
+returns c = rw (c .before .before .before .decimal-at .ensures, c .before .before .decimal-at2 .ensures, c .before .decimal-at3 .ensures, c .decimal-at4 .ensures)
 
 pub time-in-spec : {M : Type 1} → statement M
 time-in-spec =
     tie.close
     (tie.spec
-    value-at-requires
-    value-at-requires-2
-    value-at-requires-3
-    value-at-requires-4
+    decimal-at-requires
+    decimal-at-requires-2
+    decimal-at-requires-3
+    decimal-at-requires-4
     returns)
