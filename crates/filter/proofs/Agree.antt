@@ -30,7 +30,7 @@ use Rattle.syntax.specs.declared.left_side.LeftSide.{LeftSide}
 use Rattle.syntax.specs.declared.right_side.RightSide.{RightSide}
 use Rattle.syntax.specs.declared.right_side.RightSide.the-variants.{Literal, Elements, Property, Pattern}
 use Rattle.syntax.specs.declared.comparison.Comparison.{Comparison}
-use Rattle.instance.specs.Value.{ScalarValue, Value, Entry, absent, property, environment}
+use Rattle.instance.specs.Value.{ScalarValue, Value, Entry, absent, property}
 use Rattle.operand.specs.declared.cause.Cause.{Cause}
 use Rattle.operand.specs.declared.cause.Cause.the-variants as cause
 use Rattle.operand.specs.declared.index.IndexRead.{IndexRead}
@@ -45,8 +45,8 @@ use Rattle.predicate.specs.Test as test
 use Rattle.predicate.specs.Test.{Test, values, arrays, search}
 use Rattle.judge.specs.Meaning as meaning
 use Rattle.judge.specs.Meaning.{Read, unlike, faulty, value, indexedBy, Left, misshapen, leftScalar, leftArray, Right, unindexable, literalAt, before, elements, notNull, ofRow, rightScalar, rightArray, rightKind, rightProperty, patternBy, rightOf, Meant, fails, means, both, ordered, suits, operatorOf, isNegated, likeText, meet, meantBy, meantAs, asScalar, asArray}
-use Rattle.judge.specs.Environment.{entryFound, entryNamed}
-use Rattle.judge.proofs.Named.{named-entry}
+use Rattle.judge.specs.Environment.{entryNamed, entryNoted}
+use Rattle.judge.proofs.Named.{Placed, named-placed, noted-placed}
 use Rattle.filter.specs.Check as check
 use Rattle.filter.specs.Check.{Verdict, passes, breaks, first, demand, eachToken, kindFound, kindNamed, checkRightName, isArray, Shape, shapeOf, leftShape, rightShape, beside, isFitting, allFit, rowIs, rowFits, hasOrder, isOne, orderFits, orders, checkRead, checkIndex, checkLeftIndex, rangeOf, checkRange, checkRanges, checkPattern, datetimeOf, checkDatetime, checkDatetimes, checkKind, checkComparison}
 
@@ -237,17 +237,20 @@ indexed-fits p (Reads n) xs = good
 indexed-fits p TooLarge xs = fault
 
 -- what the check and the meaning see of a path's property
-data Seen : Kind → Entry → Type 0 where
+pub data Seen : Kind → Entry → Type 0 where
   unseen : Seen Unknown absent
   there : {k : ℕ} {v : Value} → Seen (kindOf k) (property k v)
 
-seen : (q t i : List ℕ) (p : Path) → Seen (kindNamed q t p) (entryNamed q t i p)
-unfolding entryNamed
-seen q t i p = go (named q t p) refl
+-- an environment of the table's kinds, whatever its values
+abbrev pub Sees : (query table : List ℕ) → (Path → Entry) → Type 0
+Sees q t env = (p : Path) → Seen (kindNamed q t p) (env p)
+
+placed-seen : (q t i : List ℕ) (env : Path → Entry) → Placed q t i env → Sees q t env
+placed-seen q t i env w p = go (named q t p) refl
   where
-    go : (x : Found) → named q t p ≡ x → Seen (kindFound x) (entryFound (environment t i) x)
-    go found.Absent e = unseen
-    go (found.Property n k) e = rw (named-entry q t i p n k e) there
+    go : (x : Found) → named q t p ≡ x → Seen (kindFound x) (env p)
+    go found.Absent e = rw (w .unnamed p e) unseen
+    go (found.Property n k) e = rw (w .entry p n k e) there
 
 module _ (f : Family) (q : List ℕ) (place : ℕ) where
   abbrev PropertyFits : Index → Kind → Right → Type 0
@@ -273,30 +276,39 @@ unfolding first demand
 pattern-fits p none = fault
 pattern-fits p (some r) = good
 
-right-fits : (f : Family) (q t i : List ℕ) (r : RightSide)
-    → RightFits f (checkRightName q t r) (rightShape q t r) (rowFits q t f r) (orderFits q t f r) (first (checkRanges f q r) (first (checkPattern q r) (checkDatetimes f q r)))
-    (rightOf f q (entryNamed q t i) r)
-unfolding checkRightName rightShape rowFits orderFits checkRanges checkPattern checkDatetimes rightOf ordered
-right-fits f q t i (Literal x) = one (literal-fits (x .start) (readLiteral f q x))
-right-fits f q t i (Elements start count end) = whole (not-null _ _ _ (elements-fit f q (elementTokens q start count)))
-right-fits f q t i (Property p x) = property-fits f q (p .first .start) x (kindNamed q t p) (entryNamed q t i p) (seen q t i p)
-right-fits f q t i (Pattern x) = pattern (pattern-fits (x .start) (patternOf q x))
+module _ (q t : List ℕ) (env : Path → Entry) (sees : Sees q t env) where
+  right-fits : (f : Family) (r : RightSide)
+      → RightFits f (checkRightName q t r) (rightShape q t r) (rowFits q t f r) (orderFits q t f r) (first (checkRanges f q r) (first (checkPattern q r) (checkDatetimes f q r)))
+      (rightOf f q env r)
+  unfolding checkRightName rightShape rowFits orderFits checkRanges checkPattern checkDatetimes rightOf ordered
+  right-fits f (Literal x) = one (literal-fits (x .start) (readLiteral f q x))
+  right-fits f (Elements start count end) = whole (not-null _ _ _ (elements-fit f q (elementTokens q start count)))
+  right-fits f (Property p x) = property-fits f q (p .first .start) x (kindNamed q t p) (env p) (sees p)
+  right-fits f (Pattern x) = pattern (pattern-fits (x .start) (patternOf q x))
 
--- ---- a comparison
-module _ (q t i : List ℕ) (c : Comparison) where
-  by-kind : (k : Kind) (v : Value) → Agrees (checkKind q t c k) (meantBy q (entryNamed q t i) c k v)
-  unfolding checkKind meantBy first demand
-  by-kind Unknown v = (refl, refl)
-  by-kind (Scalar y) v =
-      meet-agrees (c .left) (c .operation) (y .family) _ _ _ _ _ _ _ _ _ (scalar-left q (c .left .quantifier) (c .left .index) (asScalar v)) (right-fits (y .family) q t i (c .right))
-  by-kind (Array e y) v =
-      meet-agrees (c .left) (c .operation) (y .family) _ _ _ _ _ _ _ _ _ (array-left q (c .left .quantifier) (c .left .index) (asArray v)) (right-fits (y .family) q t i (c .right))
+  -- ---- a comparison, in any environment of the table's kinds
+  module _ (c : Comparison) where
+    by-kind : (k : Kind) (v : Value) → Agrees (checkKind q t c k) (meantBy q env c k v)
+    unfolding checkKind meantBy first demand
+    by-kind Unknown v = (refl, refl)
+    by-kind (Scalar y) v =
+        meet-agrees (c .left) (c .operation) (y .family) _ _ _ _ _ _ _ _ _ (scalar-left q (c .left .quantifier) (c .left .index) (asScalar v)) (right-fits (y .family) (c .right))
+    by-kind (Array e y) v =
+        meet-agrees (c .left) (c .operation) (y .family) _ _ _ _ _ _ _ _ _ (array-left q (c .left .quantifier) (c .left .index) (asArray v)) (right-fits (y .family) (c .right))
 
-  by-entry : (k : Kind) (e : Entry) → Seen k e → Agrees (checkKind q t c k) (meantAs q (entryNamed q t i) c e)
-  unfolding meantAs checkKind first demand
-  by-entry k absent unseen = (refl, refl)
-  by-entry k (property n v) there = by-kind (kindOf n) v
+    by-entry : (k : Kind) (e : Entry) → Seen k e → Agrees (checkKind q t c k) (meantAs q env c e)
+    unfolding meantAs checkKind first demand
+    by-entry k absent unseen = (refl, refl)
+    by-entry k (property n v) there = by-kind (kindOf n) v
 
-  pub comparison-agrees : Agrees (checkComparison q t c) (meaning.meaning q (entryNamed q t i) c)
-  unfolding checkComparison meaning.meaning
-  comparison-agrees = by-entry (kindNamed q t (c .left .path)) (entryNamed q t i (c .left .path)) (seen q t i (c .left .path))
+    pub agrees-in : Agrees (checkComparison q t c) (meaning.meaning q env c)
+    unfolding checkComparison meaning.meaning
+    agrees-in = by-entry (kindNamed q t (c .left .path)) (env (c .left .path)) (sees (c .left .path))
+
+-- so in an instance, by 01's layout or by notes
+module _ (q t i : List ℕ) where
+  pub comparison-agrees : (c : Comparison) → Agrees (checkComparison q t c) (meaning.meaning q (entryNamed q t i) c)
+  comparison-agrees c = agrees-in q t (entryNamed q t i) (placed-seen q t i _ (named-placed q t i)) c
+
+  pub noted-agrees : (notes : List ℕ) (c : Comparison) → Agrees (checkComparison q t c) (meaning.meaning q (entryNoted q t i notes) c)
+  noted-agrees notes c = agrees-in q t (entryNoted q t i notes) (placed-seen q t i _ (noted-placed q t i notes)) c

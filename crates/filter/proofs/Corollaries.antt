@@ -15,7 +15,7 @@ use Rattle.instance.proofs.First.{FirstFault, first-fault}
 use Rattle.instance.proofs.Built.{nulls, nulls-conform}
 use Rattle.filter.specs.Refusal.{numberOf, callOf}
 use Rattle.filter.specs.Check.{check}
-use Rattle.filter.specs.Evaluate.{answer, answerIf, evaluate, steps}
+use Rattle.filter.specs.Evaluate.{meantIn, answer, answerIf, evaluate, steps}
 use Rattle.filter.specs.Demand3.{Answered, instanceRefused, instanceTooLong, InstanceRefusals}
 use Rattle.filter.specs.declared.refusal.Checked.the-variants as checked
 use Rattle.filter.specs.declared.refusal.Answer.{Answer}
@@ -60,26 +60,26 @@ module _ (b : Bool) (n : ℕ) where
   wrong-answer (Fault Nonconforming p) h = (p, refl)
 
 module _ (q t i : List ℕ) (accepted : check q t ≡ checked.Accepted) where
-  comes-to : evaluate q t i ≡ answerIf (conformity t i) (truthCall q t i (callOf q t)) (steps q t i)
-  comes-to = evaluates q t i accepted refl
+  comes-to : evaluate q t i ≡ answerIf (conformity t i) (truthCall (meantIn q t i) (callOf q t)) (steps q t i)
+  comes-to = evaluates q t i accepted
 
   refused-as : (p : ℕ) → evaluate q t i ≡ instanceRefused p → conformity t i ≡ Fault Nonconforming p
-  refused-as p e = answer-wrong (truthCall q t i (callOf q t)) (steps q t i) (conformity t i) p (sym comes-to ∙ e)
+  refused-as p e = answer-wrong (truthCall (meantIn q t i) (callOf q t)) (steps q t i) (conformity t i) p (sym comes-to ∙ e)
 
   refused-wrong : (p : ℕ) × (evaluate q t i ≡ instanceRefused p) → IsWrong (conformity t i)
   refused-wrong (p, e) = subst IsWrong (sym (refused-as p e)) tt
 
   wrong-refused : IsWrong (conformity t i) → (p : ℕ) × (evaluate q t i ≡ instanceRefused p)
   wrong-refused h =
-      let w = wrong-answer (truthCall q t i (callOf q t)) (steps q t i) (conformity t i) h in
+      let w = wrong-answer (truthCall (meantIn q t i) (callOf q t)) (steps q t i) (conformity t i) h in
       (w .0, comes-to ∙ w .1)
 
   pub instance-refusals : InstanceRefusals q t i
   instance-refusals =
       record {
         too-long = (
-          λ e. long-exactly t i .0 (answer-long (truthCall q t i (callOf q t)) (steps q t i) (conformity t i) (sym comes-to ∙ e)),
-          λ h. comes-to ∙ ap (λ (k : Conformity). answerIf k (truthCall q t i (callOf q t)) (steps q t i)) (long-place t i h),
+          λ e. long-exactly t i .0 (answer-long (truthCall (meantIn q t i) (callOf q t)) (steps q t i) (conformity t i) (sym comes-to ∙ e)),
+          λ h. comes-to ∙ ap (λ (k : Conformity). answerIf k (truthCall (meantIn q t i) (callOf q t)) (steps q t i)) (long-place t i h),
         );
         nonconforming = (
           λ w. wrong-exactly t i (accepted-free q t accepted) .0 (refused-wrong w),

@@ -35,6 +35,8 @@ use Rattle.short_circuit.specs.declared.Told.{Told}
 use Rattle.short_circuit.specs.Walk.{told, initial, stepsIf, walkQuery}
 use Rattle.short_circuit.proofs.Loop.{walk-good}
 use Rattle.instance.specs.Fault.{conformity}
+use Rattle.instance.specs.Noted.{notesAfter}
+use Rattle.instance.proofs.NotedPlaces.{few-kinds}
 use Rattle.instance.specs.declared.conform.InstanceFault.{InstanceFault}
 use Rattle.instance.specs.declared.conform.Conformity.{Conformity}
 use Rattle.instance.specs.declared.conform.Conformity.the-variants as conformity
@@ -42,27 +44,30 @@ use Rattle.instance.proofs.Decides.{IsLong, long-exactly}
 use Rattle.operand.specs.declared.cause.Cause as comparison-cause
 use Rattle.judge.specs.declared.Judged.{Judged}
 use Rattle.judge.specs.declared.Judged.the-variants.{Fails, Tells}
-use Rattle.judge.specs.Meaning.{Meant, fails, means, meaning}
-use Rattle.judge.specs.Environment.{entryNamed}
+use Rattle.judge.specs.Meaning.{Meant, fails, means}
+use Rattle.judge.specs.Environment.{entryNoted}
+use Rattle.judge.proofs.Named.{noted-placed}
 use Rattle.judge.specs.Answers.{judged}
 use Rattle.filter.specs.Refusal.{Call, refused, compares, callQuery, callText, callUnder, callOf}
 use Rattle.filter.specs.Check as check
 use Rattle.filter.specs.Check.{passes, breaks, first, checkComparison, checkAll, asChecked, checkCall}
 use Rattle.filter.specs.Meaning.{truthOf, stepsOf, querySteps}
 use Rattle.filter.specs.Evaluate.{meantIn, answer, answerIf, evaluate, stepsCall, steps}
-use Rattle.filter.specs.Answers.{checkQuery, truthIn, stepsIn}
+use Rattle.filter.specs.Noted.{meantNoted, evaluateNoted}
+use Rattle.filter.specs.Answers.{checkQuery, truthNoted, stepsNoted}
 use Rattle.filter.specs.declared.refusal.Cause.the-variants as cause
 use Rattle.filter.specs.declared.refusal.Refusal.{Refusal}
 use Rattle.filter.specs.declared.refusal.Checked.{Checked}
 use Rattle.filter.specs.declared.refusal.Checked.the-variants.{Accepted, Refused}
 use Rattle.filter.specs.declared.refusal.Answer.{Answer}
 use Rattle.filter.specs.declared.refusal.Answer.the-variants as answers
-use Rattle.filter.proofs.Agree.{Agrees, comparison-agrees}
-use Rattle.filter.proofs.QueryAgree.{Tied, truthCall, tied}
+use Rattle.filter.proofs.Agree.{Agrees, noted-agrees}
+use Rattle.filter.proofs.QueryAgree.{Tied, truthCall, tied, noted-tied}
+use Rattle.filter.proofs.Noted.{walked-evaluates}
 use Rattle.filter.proofs.Demand3.{refused-same}
 use Rattle.filter.proofs.Size.{steps-few}
 
--- ---- a comparison, judged in any instance
+-- ---- a comparison, judged in any instance by any notes
 fails-refused : (v : check.Verdict) (m : Meant) → Agrees v m → (k : comparison-cause.Cause) (p : ℕ) → Fails k p ≡ judged m
     → Refused (record { cause = cause.Comparison k; place = p }) ≡ asChecked v
 unfolding judged
@@ -77,12 +82,12 @@ tells-accepted passes m a x e = refl
 tells-accepted (breaks c o) (means y) a x e = absurd a
 tells-accepted (breaks c o) (fails d r) a x e = let z : _≡_ {A = ℕ} 0 1 = cc in absurd (omega arith)
 
-module _ (q t i : List ℕ) (c : Comparison) {r : Judged} (er : r ≡ judged (meaning q (entryNamed q t i) c)) where
+module _ (q t i notes : List ℕ) (c : Comparison) {r : Judged} (er : r ≡ judged (meantNoted q t i notes c)) where
   pub comparison-fails : (k : comparison-cause.Cause) (p : ℕ) → r ≡ Fails k p → Refused (record { cause = cause.Comparison k; place = p }) ≡ asChecked (checkComparison q t c)
-  comparison-fails k p e = fails-refused (checkComparison q t c) (meaning q (entryNamed q t i) c) (comparison-agrees q t i c) k p (sym e ∙ er)
+  comparison-fails k p e = fails-refused (checkComparison q t c) (meantNoted q t i notes c) (noted-agrees q t i notes c) k p (sym e ∙ er)
 
   pub comparison-tells : (x : Told) → r ≡ Tells x → Accepted ≡ asChecked (checkComparison q t c)
-  comparison-tells x e = tells-accepted (checkComparison q t c) (meaning q (entryNamed q t i) c) (comparison-agrees q t i c) x (sym e ∙ er)
+  comparison-tells x e = tells-accepted (checkComparison q t c) (meantNoted q t i notes c) (noted-agrees q t i notes c) x (sym e ∙ er)
 
 -- ---- the comparisons of a text that the grammar takes
 first-refused : (v u : check.Verdict) (x : Refusal) → Refused x ≡ asChecked v → Refused x ≡ asChecked (first v u)
@@ -214,7 +219,7 @@ accepts q t ev e = sym ev ∙ e
 
 module _ (q t i : List ℕ) {v : Checked} (ev : v ≡ check.check q t) where
   pub evaluate-refused : (r : Refusal) → v ≡ Refused r → answers.Refused r ≡ evaluate q t i
-  evaluate-refused r e = sym (refused-same q t i (check.check q t) (evaluate q t i) (truthCall q t i (callOf q t)) _ (tied q t i) r (sym ev ∙ e))
+  evaluate-refused r e = sym (refused-same q t i (check.check q t) (evaluate q t i) (truthCall (meantIn q t i) (callOf q t)) _ (tied q t i) r (sym ev ∙ e))
 
 -- a call that isn't refused before its comparisons has those of the query
 apart : (c : Rattle.filter.specs.declared.refusal.Cause.Cause) (p : ℕ) (l : Comparisons) → refused c p ≡ compares l → ⊥
@@ -244,19 +249,19 @@ short t i ek e = go (ltb 65535 (length i)) refl
     go true f = absurd (subst IsLong (sym ek ∙ e) (long-exactly t i .1 (ltb-true 65535 (length i) f)))
     go false f = ltb-false 65535 (length i) f
 
-module _ (q t i : List ℕ) (accepted : check.check q t ≡ Accepted) {k : Conformity} (ek : k ≡ conformity t i) where
-  -- what an accepted query's evaluation comes to
-  tied-accepted : (c : Checked) (a : Answer) (b : Bool) (n : ℕ) → c ≡ Accepted → Tied q t i c a b n → a ≡ answerIf (conformity t i) b n
-  tied-accepted Accepted a b n e h = h
-  tied-accepted (Refused r) a b n e h = let z : _≡_ {A = ℕ} 0 1 = cc in absurd (omega arith)
+-- what an accepted query's evaluation comes to
+tied-accepted : (k : Conformity) (c : Checked) (a : Answer) (b : Bool) (n : ℕ) → c ≡ Accepted → Tied k c a b n → a ≡ answerIf k b n
+tied-accepted k Accepted a b n e h = h
+tied-accepted k (Refused r) a b n e h = let z : _≡_ {A = ℕ} 0 1 = cc in absurd (omega arith)
 
-  pub evaluates : evaluate q t i ≡ answerIf k (truthCall q t i (callOf q t)) (steps q t i)
+module _ (q t i : List ℕ) (accepted : check.check q t ≡ Accepted) where
+  pub evaluates : evaluate q t i ≡ answerIf (conformity t i) (truthCall (meantIn q t i) (callOf q t)) (steps q t i)
   evaluates =
-      tied-accepted (check.check q t) (evaluate q t i) (truthCall q t i (callOf q t)) (steps q t i) accepted (tied q t i)
-      ∙ ap (λ (x : Conformity). answerIf x (truthCall q t i (callOf q t)) (steps q t i)) (sym ek)
+      tied-accepted (conformity t i) (check.check q t) (evaluate q t i) (truthCall (meantIn q t i) (callOf q t)) (steps q t i) accepted (tied q t i)
 
-  pub evaluate-nonconforming : (c : InstanceFault) (p : ℕ) → k ≡ conformity.Fault c p → answers.Refused (record { cause = cause.Instance c; place = p }) ≡ evaluate q t i
-  evaluate-nonconforming c p e = sym (evaluates ∙ ap (λ (x : Conformity). answerIf x (truthCall q t i (callOf q t)) (steps q t i)) e)
+  pub evaluate-nonconforming : {k : Conformity} → k ≡ conformity t i → (c : InstanceFault) (p : ℕ) → k ≡ conformity.Fault c p
+      → answers.Refused (record { cause = cause.Instance c; place = p }) ≡ evaluate q t i
+  evaluate-nonconforming ek c p e = sym (evaluates ∙ ap (λ (x : Conformity). answerIf x (truthCall (meantIn q t i) (callOf q t)) (steps q t i)) (sym ek ∙ e))
 
   call-refused : (c : Rattle.filter.specs.declared.refusal.Cause.Cause) (p : ℕ) → callOf q t ≡ refused c p → ⊥
   unfolding check.check
@@ -265,30 +270,39 @@ module _ (q t i : List ℕ) (accepted : check.check q t ≡ Accepted) {k : Confo
       let z : _≡_ {A = ℕ} 0 1 = cc in
       omega arith
 
-  walked : (c : Call) → callOf q t ≡ c → walkQuery (truthIn q t i) (stepsIn q t i) initial 0 (query q) ≡ told (truthCall q t i c) (stepsCall (meantIn q t i) c)
-  unfolding querySteps
-  walked (refused c p) e = absurd (call-refused c p e)
-  walked (compares l) e = walk-good (truthIn q t i) (stepsIn q t i) q l (call-good q t l e)
+  -- by notes, whatever is noted
+  module _ (notes : List ℕ) where
+    walked : (c : Call) → callOf q t ≡ c
+        → walkQuery (truthNoted q t i notes) (stepsNoted q t i notes) initial 0 (query q) ≡ told (truthCall (meantNoted q t i notes) c) (stepsCall (meantNoted q t i notes) c)
+    unfolding querySteps
+    walked (refused c p) e = absurd (call-refused c p e)
+    walked (compares l) e = walk-good (truthNoted q t i notes) (stepsNoted q t i notes) q l (call-good q t l e)
 
-  pub evaluate-answers : k ≡ conformity.Conforming → {x : Told} → x ≡ walkQuery (truthIn q t i) (stepsIn q t i) initial 0 (query q)
-      → {a : Answer} → a ≡ answer (x .holds) (x .steps) → a ≡ evaluate q t i
-  unfolding steps
-  evaluate-answers e ex ea =
-      ea ∙ ap (λ (y : Told). answer (y .holds) (y .steps)) (ex ∙ walked (callOf q t) refl)
-      ∙ sym (evaluates ∙ ap (λ (x : Conformity). answerIf x (truthCall q t i (callOf q t)) (steps q t i)) e)
+    pub noted-answers : {x : Told} → x ≡ walkQuery (truthNoted q t i notes) (stepsNoted q t i notes) initial 0 (query q)
+        → {a : Answer} → a ≡ answer (x .holds) (x .steps) → a ≡ evaluateNoted q t i notes
+    noted-answers ex ea =
+        ea ∙ ap (λ (y : Told). answer (y .holds) (y .steps)) (ex ∙ walked (callOf q t) refl)
+        ∙ sym (tied-accepted conformity.Conforming (check.check q t) (evaluateNoted q t i notes) (truthCall (meantNoted q t i notes) (callOf q t))
+        (stepsCall (meantNoted q t i notes) (callOf q t)) accepted (noted-tied q t i notes))
+
+-- the notes that a walk over the instance has left
+module _ (q t i notes : List ℕ) {k : Conformity} (ek : k ≡ conformity t i) (e : k ≡ conformity.Conforming) where
+  pub walked-answers : check.check q t ≡ Accepted → 128 ≤ length notes → {new : List ℕ} → new ≡ notesAfter t i notes → {a : Answer} → a ≡ evaluateNoted q t i new → a ≡ evaluate q t i
+  walked-answers accepted room en ea =
+      ea ∙ ap (evaluateNoted q t i) en ∙ walked-evaluates q t i notes (sym ek ∙ e) (omega (arith, few-kinds t (accepted-free q t accepted)))
 
 -- ---- a comparison, if it is judged
-module _ (q t i : List ℕ) (c : Comparison) (live : Bool) where
+module _ (q t i notes : List ℕ) (c : Comparison) (live : Bool) where
   abbrev JudgedIf : Told → Type 0
-  JudgedIf x = x ≡ told (live && truthIn q t i c) (stepsIf live (stepsIn q t i c))
+  JudgedIf x = x ≡ told (live && truthNoted q t i notes c) (stepsIf live (stepsNoted q t i notes c))
 
   pub skipped : not live ≡ true → JudgedIf (told false 0)
-  skipped h = by (meantIn q t i c) live (not-true _ h)
+  skipped h = by (meantNoted q t i notes c) live (not-true _ h)
     where
       by : (m : Meant) (b : Bool) → b ≡ false → told false 0 ≡ told (b && truthOf m) (stepsIf b (stepsOf m))
       by m b e = rw e refl
 
-  module _ (h : not live ≡ false) {r : Judged} (er : r ≡ judged (meaning q (entryNamed q t i) c)) where
+  module _ (h : not live ≡ false) {r : Judged} (er : r ≡ judged (meantNoted q t i notes c)) where
     live-told : (m : Meant) → told (truthOf m) (stepsOf m) ≡ told (live && truthOf m) (stepsIf live (stepsOf m))
     live-told m = by live (not-false _ h)
       where
@@ -306,13 +320,14 @@ module _ (q t i : List ℕ) (c : Comparison) (live : Bool) where
     tells-told (means y) x e = cc
 
     pub judged-nothing : (k : comparison-cause.Cause) (p : ℕ) → r ≡ Fails k p → JudgedIf (told false 0)
-    judged-nothing k p e = failed-told (meantIn q t i c) k p (sym e ∙ er) ∙ live-told (meantIn q t i c)
+    judged-nothing k p e = failed-told (meantNoted q t i notes c) k p (sym e ∙ er) ∙ live-told (meantNoted q t i notes c)
 
     pub judged-told : (x : Told) → r ≡ Tells x → JudgedIf x
-    judged-told x e = tells-told (meantIn q t i c) x (sym e ∙ er) ∙ live-told (meantIn q t i c)
+    judged-told x e = tells-told (meantNoted q t i notes c) x (sym e ∙ er) ∙ live-told (meantNoted q t i notes c)
 
     pub judged-few : (x : Told) → r ≡ Tells x → x .steps ≤ 1 + length i
-    judged-few x e = omega (arith, steps-few q t i c, ap (λ (y : Told). y .steps) (tells-told (meantIn q t i c) x (sym e ∙ er)))
+    judged-few x e =
+        omega (arith, steps-few q t i (entryNoted q t i notes) (noted-placed q t i notes) c, ap (λ (y : Told). y .steps) (tells-told (meantNoted q t i notes c) x (sym e ∙ er)))
 
 -- ---- an answer by its truth value
 module _ (x : Told) where

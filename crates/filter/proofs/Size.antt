@@ -1,6 +1,6 @@
 -- A comparison reads at most as much as the instance has bytes, so that the steps of 64 of them are far from 2^64.
 use Prim.Native.Nat.{ℕ, _+_, _≤_}
-use mathlib.Core.Path.{_≡_, refl, sym, subst}
+use mathlib.Core.Path.{_≡_, refl, subst}
 use mathlib.Core.List.{List}
 use mathlib.Core.Bool.{Bool, true, false}
 use mathlib.Core.Option.{Option}
@@ -39,13 +39,10 @@ use Rattle.predicate.specs.Test.{Test, values, arrays, search, reads}
 use Rattle.predicate.proofs.Bounds.{steps-bounded, body-few, text-few, spot-few}
 use Rattle.judge.specs.Meaning as meaning
 use Rattle.judge.specs.Meaning.{Read, unlike, faulty, elementOf, indexedBy, Left, misshapen, leftScalar, leftArray, Right, missing, unindexable, Meant, fails, means, both, operatorOf, isNegated, likeText, meet, meantBy, meantAs}
-use Rattle.judge.specs.Environment.{entryFound, entryNamed}
 use Rattle.judge.proofs.Sides.{element-start}
 use Rattle.judge.proofs.Meeting.{scalar-of, array-of}
-use Rattle.judge.proofs.Named.{named-entry}
+use Rattle.judge.proofs.Named.{Placed}
 use Rattle.filter.specs.Meaning.{stepsOf, readsOf}
-use Rattle.filter.specs.Evaluate.{meantIn}
-use Rattle.filter.specs.Answers.{stepsIn}
 
 -- what a left side reads at most
 abbrev Few : ℕ → Left → Type 0
@@ -125,8 +122,15 @@ array-few t q i Single (At y) b = indexed-few t i b (y .start) (indexOf q y)
 array-few t q i Any x b = body-few t i b
 array-few t q i Every x b = body-few t i b
 
-module _ (q t i : List ℕ) (c : Comparison) where
-  kind-few : (kind place : ℕ) (k : Kind) → kindOf kind ≡ k → readsOf (meantBy q (entryNamed q t i) c k (valueAt kind i place)) ≤ length i
+-- a comparison counts one step and at most as many more as it reads
+pub steps-reads : (m : Meant) → stepsOf m ≤ 1 + readsOf m
+unfolding stepsOf readsOf
+steps-reads (fails c p) = omega arith
+steps-reads (means x) = steps-bounded x
+
+-- in any environment that reads from the instance
+module _ (q t i : List ℕ) (env : path.Path → Entry) (w : Placed q t i env) (c : Comparison) where
+  kind-few : (kind place : ℕ) (k : Kind) → kindOf kind ≡ k → readsOf (meantBy q env c k (valueAt kind i place)) ≤ length i
   unfolding meantBy readsOf
   kind-few kind place Unknown e = omega arith
   kind-few kind place (Scalar y) e =
@@ -136,20 +140,14 @@ module _ (q t i : List ℕ) (c : Comparison) where
       meet-few (length i) (c .left) (c .operation) (y .family) _ _
       (rw (array-of kind i place element y e) (array-few y q i (c .left .quantifier) (c .left .index) (bodyAt i place)))
 
-  entry-few : (x : Found) → named q t (c .left .path) ≡ x → readsOf (meantAs q (entryNamed q t i) c (entryFound (environment t i) x)) ≤ length i
+  entry-few : (x : Found) → named q t (c .left .path) ≡ x → readsOf (meantAs q env c (env (c .left .path))) ≤ length i
   unfolding meantAs readsOf
-  entry-few found.Absent e = omega arith
-  entry-few (found.Property n k) e =
-      subst (λ (y : Entry). readsOf (meantAs q (entryNamed q t i) c y) ≤ length i) (sym (named-entry q t i (c .left .path) n k e)) (kind-few k (startOf i n) (kindOf k) refl)
+  entry-few found.Absent e = rw (w .unnamed (c .left .path) e) (omega arith)
+  entry-few (found.Property n k) e = rw (w .entry (c .left .path) n k e) (kind-few k (w .place n) (kindOf k) refl)
 
-  reads-few : readsOf (meantIn q t i c) ≤ length i
-  unfolding meaning.meaning entryNamed
+  reads-few : readsOf (meaning.meaning q env c) ≤ length i
+  unfolding meaning.meaning
   reads-few = entry-few (named q t (c .left .path)) refl
 
-  steps-reads : (m : Meant) → stepsOf m ≤ 1 + readsOf m
-  unfolding stepsOf readsOf
-  steps-reads (fails k p) = omega arith
-  steps-reads (means x) = steps-bounded x
-
-  pub steps-few : stepsIn q t i c ≤ 1 + length i
-  steps-few = omega (arith, steps-reads (meantIn q t i c), reads-few)
+  pub steps-few : stepsOf (meaning.meaning q env c) ≤ 1 + length i
+  steps-few = omega (arith, steps-reads (meaning.meaning q env c), reads-few)

@@ -24,11 +24,12 @@ ghost use Rattle.filter.specs.Check as Check;
 ghost use Rattle.filter.specs.Check.{checkComparison, asChecked};
 ghost use Rattle.filter.specs.Answers.{checkQuery};
 
-// A comparison fails in any instance or in none, so that one without records will do.
+// A comparison fails in any instance and by any notes or in none, so that one without records will do.
 fn check_comparison<'a>(q: &'a [u8], t: &'a [u8], c: Comparison) -> Checked
     ensures { λ r. ⌜ r ≡ asChecked (checkComparison (now (q .entry)) (now (t .entry)) c) ⌝ }
 {
-    match judge(q, t, piece(t, 0, 0), c) {
+    let notes = [0usize; 1];
+    match judge(q, t, piece(t, 0, 0), &notes, c) {
         Judged::Fails(cause, place) => Checked::Refused(Refusal {
             cause: Cause::Comparison(cause),
             place,

@@ -6,6 +6,7 @@ use crate::refusal::Checked;
 use crate::refusal::Refusal;
 use instance::conform::Conformity;
 use instance::conform::check_instance;
+use instance::notes::NOTES;
 use judge::Judged;
 use judge::judge;
 use query_text::join::is_last;
@@ -25,14 +26,23 @@ ghost use Prim.Native.Nat.{_+_, _≤_};
 ghost use lib.ListN.{length};
 ghost use Rattle.syntax.specs.Scan.{scan};
 ghost use Rattle.query_text.specs.Query.{queryFrom, query};
+ghost use Rattle.instance.specs.Noted.{notesAfter};
 ghost use Rattle.short_circuit.specs.Walk.{told, initial, stepsIf, walkQuery};
 ghost use Rattle.filter.specs.Check as Check;
 ghost use Rattle.filter.specs.Evaluate as Evaluate;
-ghost use Rattle.filter.specs.Answers.{truthIn, stepsIn};
+ghost use Rattle.filter.specs.Noted.{evaluateNoted};
+ghost use Rattle.filter.specs.Answers.{truthNoted, stepsNoted};
 
 // A comparison, if it is judged.
-fn judge_if<'a>(live: bool, q: &'a [u8], t: &'a [u8], i: &'a [u8], c: Comparison) -> Told
-    ensures { λ r. ⌜ (r ≡ told (live && truthIn (now (q .entry)) (now (t .entry)) (now (i .entry)) c) (stepsIf live (stepsIn (now (q .entry)) (now (t .entry)) (now (i .entry)) c))) × (r .steps ≤ 1 + length (now (i .entry))) ⌝ }
+fn judge_if<'a>(
+    live: bool,
+    q: &'a [u8],
+    t: &'a [u8],
+    i: &'a [u8],
+    notes: &[usize],
+    c: Comparison,
+) -> Told
+    ensures { λ r. ⌜ (r ≡ told (live && truthNoted (now (q .entry)) (now (t .entry)) (now (i .entry)) (now (notes .entry)) c) (stepsIf live (stepsNoted (now (q .entry)) (now (t .entry)) (now (i .entry)) (now (notes .entry)) c))) × (r .steps ≤ 1 + length (now (i .entry))) ⌝ }
 {
     if !live {
         return Told {
@@ -40,7 +50,7 @@ fn judge_if<'a>(live: bool, q: &'a [u8], t: &'a [u8], i: &'a [u8], c: Comparison
             steps: 0,
         };
     }
-    match judge(q, t, i, c) {
+    match judge(q, t, i, notes, c) {
         Judged::Fails(_, _) => Told {
             holds: false,
             steps: 0,
@@ -50,9 +60,16 @@ fn judge_if<'a>(live: bool, q: &'a [u8], t: &'a [u8], i: &'a [u8], c: Comparison
 }
 
 // The comparisons from a token on, judged from left to right.
-fn walk_from<'a>(q: &'a [u8], t: &'a [u8], i: &'a [u8], grouped: bool, first: Token) -> Told
+fn walk_from<'a>(
+    q: &'a [u8],
+    t: &'a [u8],
+    i: &'a [u8],
+    notes: &[usize],
+    grouped: bool,
+    first: Token,
+) -> Told
     requires { ⌜ length (now i) ≤ 65535 ⌝ }
-    ensures { λ r. ⌜ r ≡ walkQuery (truthIn (now (q .entry)) (now (t .entry)) (now (i .entry))) (stepsIn (now (q .entry)) (now (t .entry)) (now (i .entry))) initial 0 (queryFrom 64 (scan (now (q .entry))) grouped first) ⌝ }
+    ensures { λ r. ⌜ r ≡ walkQuery (truthNoted (now (q .entry)) (now (t .entry)) (now (i .entry)) (now (notes .entry))) (stepsNoted (now (q .entry)) (now (t .entry)) (now (i .entry)) (now (notes .entry))) initial 0 (queryFrom 64 (scan (now (q .entry))) grouped first) ⌝ }
 {
     let mut token = first;
     let mut left: usize = 64;
@@ -67,7 +84,7 @@ fn walk_from<'a>(q: &'a [u8], t: &'a [u8], i: &'a [u8], grouped: bool, first: To
                 };
             }
             NextResult::HasNext(c, j, next) => {
-                let one = judge_if(is_live(chains), q, t, i, c);
+                let one = judge_if(is_live(chains), q, t, i, notes, c);
                 if is_last(j) {
                     return Told {
                         holds: finish(chains, one.holds),
@@ -87,13 +104,13 @@ fn walk_from<'a>(q: &'a [u8], t: &'a [u8], i: &'a [u8], grouped: bool, first: To
     }
 }
 
-fn walk<'a>(q: &'a [u8], t: &'a [u8], i: &'a [u8]) -> Told
+fn walk<'a>(q: &'a [u8], t: &'a [u8], i: &'a [u8], notes: &[usize]) -> Told
     requires { ⌜ length (now i) ≤ 65535 ⌝ }
-    ensures { λ r. ⌜ r ≡ walkQuery (truthIn (now (q .entry)) (now (t .entry)) (now (i .entry))) (stepsIn (now (q .entry)) (now (t .entry)) (now (i .entry))) initial 0 (query (now (q .entry))) ⌝ }
+    ensures { λ r. ⌜ r ≡ walkQuery (truthNoted (now (q .entry)) (now (t .entry)) (now (i .entry)) (now (notes .entry))) (stepsNoted (now (q .entry)) (now (t .entry)) (now (i .entry)) (now (notes .entry))) initial 0 (query (now (q .entry))) ⌝ }
 {
     let o = open_query(q);
     let token = o.token;
-    walk_from(q, t, i, o.grouped, token)
+    walk_from(q, t, i, notes, o.grouped, token)
 }
 
 fn answer_of(x: Told) -> Answer
@@ -105,17 +122,37 @@ fn answer_of(x: Told) -> Answer
     Answer::Excluded(x.steps)
 }
 
-// Of a query that the check accepts: whether it includes the instance, and in how many steps. Whoever evaluates many instances checks once.
-pub fn evaluate_accepted<'a>(query: &'a [u8], table: &'a [u8], instance: &'a [u8]) -> Answer
-    requires { ⌜ Check.check (now query) (now table) ≡ Checked.Accepted ⌝ }
-    ensures { λ r. ⌜ r ≡ Evaluate.evaluate (now (query .entry)) (now (table .entry)) (now (instance .entry)) ⌝ }
+// Of a query that the check accepts, over an instance that is already walked: each property's record is read at the place noted for it, whatever is noted. Whoever has many
+// filters walks an instance once, with `check_instance`, and evaluates each of them here.
+pub fn evaluate_noted<'a>(
+    query: &'a [u8],
+    table: &'a [u8],
+    instance: &'a [u8],
+    notes: &[usize],
+) -> Answer
+    requires { ⌜ (Check.check (now query) (now table) ≡ Checked.Accepted) × (length (now instance) ≤ 65535) ⌝ }
+    ensures { λ r. ⌜ r ≡ evaluateNoted (now (query .entry)) (now (table .entry)) (now (instance .entry)) (now (notes .entry)) ⌝ }
 {
-    match check_instance(table, instance) {
+    answer_of(walk(query, table, instance, notes))
+}
+
+// Of a query that the check accepts: whether it includes the instance, and in how many steps. Whoever evaluates many instances checks once, and lends the same notes for each:
+// what they hold before doesn't matter.
+pub fn evaluate_accepted<'a>(
+    query: &'a [u8],
+    table: &'a [u8],
+    instance: &'a [u8],
+    notes: &mut [usize],
+) -> Answer
+    requires { ⌜ (Check.check (now query) (now table) ≡ Checked.Accepted) × (128 ≤ length (now notes)) ⌝ }
+    ensures { λ r. ⌜ (r ≡ Evaluate.evaluate (now (query .entry)) (now (table .entry)) (now (instance .entry))) × (now (notes .exit) ≡ notesAfter (now (table .entry)) (now (instance .entry)) (now (notes .entry))) × (length (now (notes .exit)) ≡ length (now (notes .entry))) ⌝ }
+{
+    match check_instance(table, instance, notes) {
         Conformity::Fault { cause, place } => Answer::Refused(Refusal {
             cause: Cause::Instance(cause),
             place,
         }),
-        Conformity::Conforming => answer_of(walk(query, table, instance)),
+        Conformity::Conforming => evaluate_noted(query, table, instance, notes),
     }
 }
 
@@ -125,6 +162,9 @@ pub fn evaluate<'a>(query: &'a [u8], table: &'a [u8], instance: &'a [u8]) -> Ans
 {
     match check(query, table) {
         Checked::Refused(r) => Answer::Refused(r),
-        Checked::Accepted => evaluate_accepted(query, table, instance),
+        Checked::Accepted => {
+            let mut notes = [0usize; NOTES];
+            evaluate_accepted(query, table, instance, &mut notes)
+        }
     }
 }

@@ -6,7 +6,6 @@ use syntax::fault::Fault;
 use table::validate::TableFault;
 ghost use mathlib.Core.Path.{_≡_};
 ghost use Rattle.filter.specs.Refusal.{numberOf};
-ghost use Rattle.filter.specs.Check as Check;
 
 // Of the table, of the query's text, of a comparison, of the instance.
 pub enum Cause {

@@ -1,11 +1,12 @@
 -- One law for each way out of the functions of src/.
-use Prim.Native.Nat.{ℕ, _+_, _-_, _≤_, _<_}
+use Prim.Native.Nat.{ℕ, zero, suc, _+_, _-_, _≤_, _<_}
 use mathlib.Core.List.{List, _∷_}
-use mathlib.Core.Bool.{Bool, true, false, not}
+use mathlib.Core.Bool.{Bool, true, false, not, _||_}
 use mathlib.Core.Path.{_≡_, refl, sym, ap, _∙_}
 use native.Mathlib.Omega.{arith}
 use native.Mathlib.Numerals.{add-one}
 use lib.ListN.{length}
+use lib.IntN.{ℤ}
 use borrow.Author.Tests.{lt-ltb, le-ltb, eq-eqb, ne-eqb, not-true, not-false}
 use Rattle.base.specs.Pick.{pick}
 use Rattle.base.specs.Part.{part}
@@ -16,15 +17,27 @@ use Rattle.record.specs.declared.read.RecordAt.the-variants.{Whole, Broken, End
 use Rattle.record.specs.declared.kind.ValueType.{ValueType}
 use Rattle.record.specs.declared.kind.Kind.{Kind}
 use Rattle.record.proofs.Records.{records-at, records-whole, records-broken, records-end}
+use Rattle.datetime.specs.Datetime.{isTimestamp, isInterval, moment, intervalLength, datetimeOf}
+use Rattle.datetime.specs.declared.Datetime.the-variants.{Timestamp, Interval, Malformed}
 use Rattle.table.specs.Properties.{kindsIn}
 use Rattle.instance.specs.declared.conform.InstanceFault.the-variants.{TooLong}
 use Rattle.instance.specs.declared.conform.Conformity.{Conformity}
 use Rattle.instance.specs.declared.conform.Conformity.the-variants.{Conforming, Fault}
 use Rattle.instance.specs.declared.conform.Step.{Step}
 use Rattle.instance.specs.declared.conform.Step.the-variants.{Next, Wrong}
-use Rattle.instance.specs.Body.{valueFits}
+use Rattle.instance.specs.Body.{isDatetime, datetimeFits, valueFits}
 use Rattle.instance.specs.Fault.{faultAt, isNull, slotFits, elementsFit, bodyFits, recordFits, furtherFault, faultIn, faultUnder, stepOf, stepAt}
 use Rattle.instance.specs.Start.{nextAt, startOf}
+
+-- a datetime
+pub datetime-fits : (s : List ℕ) {r : Bool} → r ≡ (isTimestamp s || isInterval s) → r ≡ datetimeFits s
+unfolding datetimeFits datetimeOf
+datetime-fits s e = e ∙ go (isTimestamp s) (isInterval s) (moment s) (intervalLength s)
+  where
+    go : (a b : Bool) (m n : ℤ) → (a || b) ≡ isDatetime (pick a (Timestamp m) (pick b (Interval n) Malformed))
+    go true b m n = refl
+    go false true m n = refl
+    go false false m n = refl
 
 -- the record of a property
 module _ (k kind : ℕ) (s : List ℕ) (x : Bool) (e : x ≡ isNull kind s) where
@@ -164,3 +177,16 @@ start-next i n at h y g = g ∙ rw (h, add-one, startOf)
 
 pub start-end : (i : List ℕ) (n number at : ℕ) → at ≡ startOf i n → n ≤ number → number ≤ n → at ≡ startOf i number
 start-end i n number at h l m = let e : n ≡ number = omega arith in h ∙ ap (startOf i) e
+
+-- at the end nothing more follows
+start-stops : (i : List ℕ) (n more at : ℕ) → at ≡ startOf i n → at ≡ nextAt i at → at ≡ startOf i (more + n)
+unfolding startOf
+start-stops i n zero at h g = let e : n ≡ 0 + n = omega arith in h ∙ ap (startOf i) e
+start-stops i n (suc more) at h g =
+    let e : suc (more + n) ≡ suc more + n = omega arith in
+    g ∙ ap (nextAt i) (start-stops i n more at h g) ∙ ap (startOf i) e
+
+pub start-past : (i : List ℕ) (n number at : ℕ) → at ≡ startOf i n → n < number → (y : ℕ) → y ≡ nextAt i at → y ≡ at → at ≡ startOf i number
+start-past i n number at h l y g f =
+    let e : number - n + n ≡ number = omega arith in
+    start-stops i n (number - n) at h (sym f ∙ g) ∙ ap (startOf i) e

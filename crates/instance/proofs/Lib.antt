@@ -1,9 +1,11 @@
 pub mod Laws
+pub mod Noting
 pub mod Types
 pub mod Decides
 pub mod First
 pub mod Built
 pub mod Environment
+pub mod NotedPlaces
 pub mod Integers
 pub mod Formed
 pub mod Examples

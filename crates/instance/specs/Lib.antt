@@ -3,6 +3,7 @@ pub mod Conforms
 pub mod Fault
 pub mod Start
 pub mod Value
+pub mod Noted
 pub mod Integers
 pub mod Sample
 pub mod Examples

@@ -1,5 +1,4 @@
 // The rules of a value's body, by its type.
-use datetime::Datetime;
 use record::kind::Family;
 use record::kind::ValueType;
 use unicode::text::Utf8;
@@ -31,11 +30,7 @@ fn char16_fits(s: &[u8]) -> bool
 fn datetime_fits(s: &[u8]) -> bool
     ensures { λ r. ⌜ r ≡ datetimeFits (now (s .entry)) ⌝ }
 {
-    match datetime::read::read_datetime(s) {
-        Datetime::Timestamp(_) => true,
-        Datetime::Interval(_) => true,
-        Datetime::Malformed => false,
-    }
+    datetime::read::is_datetime(s)
 }
 
 fn family_fits(s: &[u8], family: Family, width: usize) -> bool

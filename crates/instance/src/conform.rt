@@ -1,11 +1,14 @@
 // Whether an instance conforms to a table: numbers 30 and 31, with their places.
 use crate::array::record_fits;
+use crate::notes::note;
 use base::bytes::piece;
 use record::read::RecordAt;
 ghost use mathlib.Core.Path.{_≡_};
+ghost use lib.ListN.{length};
 ghost use Rattle.record.specs.Record.{records};
 ghost use Rattle.table.specs.Properties.{kindsIn};
 ghost use Rattle.instance.specs.Fault.{numberOf, stepAt, furtherFault, faultIn, conformity};
+ghost use Rattle.instance.specs.Noted.{noted, fitting, notesAfter};
 
 pub enum InstanceFault {
     TooLong,
@@ -84,12 +87,13 @@ fn further(i: &[u8], first: usize) -> Conformity
     }
 }
 
-// The table's properties from `first` on, beside the instance's records.
-fn walk_beside<'a>(t: &'a [u8], first: usize, i: &'a [u8]) -> Conformity
-    ensures { λ r. ⌜ r ≡ faultIn (now (i .entry)) (kindsIn (records (now (t .entry)) first)) (records (now (i .entry)) 0) ⌝ }
+// The table's properties from `first` on, beside the instance's records; the places of those that fit are noted.
+fn walk_beside<'a>(t: &'a [u8], first: usize, i: &'a [u8], notes: &mut [usize]) -> Conformity
+    ensures { λ r. ⌜ (r ≡ faultIn (now (i .entry)) (kindsIn (records (now (t .entry)) first)) (records (now (i .entry)) 0)) × (now (notes .exit) ≡ noted (now (i .entry)) (fitting (now (i .entry)) (kindsIn (records (now (t .entry)) first)) (records (now (i .entry)) 0)) (now (notes .entry))) × (length (now (notes .exit)) ≡ length (now (notes .entry))) ⌝ }
 {
     let mut row = first;
     let mut at: usize = 0;
+    let mut number: usize = 0;
     loop {
         match record::read::record_at(t, row) {
             RecordAt::Whole {
@@ -99,8 +103,10 @@ fn walk_beside<'a>(t: &'a [u8], first: usize, i: &'a [u8]) -> Conformity
                 next,
             } => match step_at(i, at, kind) {
                 Step::Next(then) => {
+                    note(notes, number, at);
                     at = then;
                     row = next;
+                    number += 1;
                 }
                 Step::Wrong(place) => return nonconforming(place),
             },
@@ -110,9 +116,9 @@ fn walk_beside<'a>(t: &'a [u8], first: usize, i: &'a [u8]) -> Conformity
     }
 }
 
-// Whether an instance conforms to a table that is free of 2 and 3, or its fault.
-pub fn check_instance<'a>(t: &'a [u8], i: &'a [u8]) -> Conformity
-    ensures { λ r. ⌜ r ≡ conformity (now (t .entry)) (now (i .entry)) ⌝ }
+// Whether an instance conforms to a table that is free of 2 and 3, or its fault. The notes then hold where each property's record starts, as far as the walk went.
+pub fn check_instance<'a>(t: &'a [u8], i: &'a [u8], notes: &mut [usize]) -> Conformity
+    ensures { λ r. ⌜ (r ≡ conformity (now (t .entry)) (now (i .entry))) × (now (notes .exit) ≡ notesAfter (now (t .entry)) (now (i .entry)) (now (notes .entry))) × (length (now (notes .exit)) ≡ length (now (notes .entry))) ⌝ }
 {
     if 65535 < i.len() {
         return Conformity::Fault {
@@ -120,5 +126,5 @@ pub fn check_instance<'a>(t: &'a [u8], i: &'a [u8]) -> Conformity
             place: 0,
         };
     }
-    walk_beside(t, table::lookup::first_property(t), i)
+    walk_beside(t, table::lookup::first_property(t), i, notes)
 }

@@ -2,4 +2,5 @@
 pub mod array;
 pub mod body;
 pub mod conform;
+pub mod notes;
 pub mod start;

@@ -1,4 +1,4 @@
-// Where the records of an instance start.
+// Where the records of a slice start.
 use record::read::RecordAt;
 ghost use mathlib.Core.Path.{_≡_};
 ghost use Rattle.instance.specs.Start.{nextAt, startOf};
@@ -18,14 +18,18 @@ fn next_after(i: &[u8], at: usize) -> usize
     }
 }
 
-// Where the record of a property starts; properties are counted from 0.
+// Where a record starts, counted from 0. Past the last one nothing follows, so that no number takes longer than the records do.
 pub fn start_of(i: &[u8], number: usize) -> usize
     ensures { λ r. ⌜ r ≡ startOf (now (i .entry)) number ⌝ }
 {
     let mut at: usize = 0;
     let mut n: usize = 0;
     while n < number {
-        at = next_after(i, at);
+        let next = next_after(i, at);
+        if next == at {
+            return at;
+        }
+        at = next;
         n += 1;
     }
     at

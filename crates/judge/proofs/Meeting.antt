@@ -21,9 +21,9 @@ use Rattle.record.specs.declared.kind.Kind.the-variants.{Unknown, Scalar, Array
 use Rattle.token.specs.declared.Token.{Token}
 use Rattle.syntax.specs.declared.path.Index.{Index}
 use Rattle.syntax.specs.declared.path.Index.the-variants.{Whole, At}
-use Rattle.instance.specs.Start.{startOf}
 use Rattle.instance.specs.Value as value
 use Rattle.instance.specs.Value.{ScalarValue, valueAt}
+use Rattle.instance.specs.Noted.{placeNoted}
 use Rattle.value.specs.Read.{valueIn, valueInRecord, asValue}
 use Rattle.value.proofs.Reading.{scalar-property}
 use Rattle.operand.specs.declared.cause.Cause.{Cause}
@@ -73,7 +73,7 @@ use Rattle.table.specs.declared.lookup.Found.the-variants as found
 use Rattle.syntax.specs.declared.path.Path as path
 use Rattle.operand.specs.Named.{named}
 use Rattle.judge.specs.Meaning.{rightScalar, rightArray, rightKind, rightProperty}
-use Rattle.judge.specs.Environment.{entryNamed}
+use Rattle.judge.specs.Environment.{entryNoted}
 use Rattle.judge.proofs.Sides.{elements-good}
 use Rattle.judge.proofs.Named.{entry-there}
 
@@ -406,12 +406,12 @@ module _ (a : LeftSide) (o : Operation) (f : Family) (l : meaning.Left) where
         h ∙ ap (λ (x : test.Array). judged (meet a o f l (rightArray q (sameRow f (t .family)) index x))) (sym (array-of kind i place element t (sym ek ∙ e)))
         ∙ sym (ap (λ (x : Kind). judged (meet a o f l (rightKind f q name index x (valueAt kind i place)))) (sym ek ∙ e))
 
-  module _ (q t i : List ℕ) (p : path.Path) (index : Index) {r : Found} (er : r ≡ named q t p) where
-    pub property-absent : r ≡ found.Absent → Beside (rightProperty f q (p .first .start) index (entryNamed q t i p)) (Fails cause.Name (p .first .start))
-    unfolding rightProperty judged meet entryNamed
+  module _ (q t i notes : List ℕ) (p : path.Path) (index : Index) {r : Found} (er : r ≡ named q t p) where
+    pub property-absent : r ≡ found.Absent → Beside (rightProperty f q (p .first .start) index (entryNoted q t i notes p)) (Fails cause.Name (p .first .start))
+    unfolding rightProperty judged meet entryNoted
     property-absent e = rw (← er, e) refl
 
-    pub property-found : (number kind : ℕ) → r ≡ found.Property number kind → {place : ℕ} → place ≡ startOf i number → {j : Judged}
-        → Beside (rightKind f q (p .first .start) index (kindOf kind) (valueAt kind i place)) j → Beside (rightProperty f q (p .first .start) index (entryNamed q t i p)) j
+    pub property-found : (number kind : ℕ) → r ≡ found.Property number kind → {place : ℕ} → place ≡ placeNoted notes number → {j : Judged}
+        → Beside (rightKind f q (p .first .start) index (kindOf kind) (valueAt kind i place)) j → Beside (rightProperty f q (p .first .start) index (entryNoted q t i notes p)) j
     unfolding rightProperty
-    property-found number kind e ep h = h ∙ rw (entry-there q t i p number kind (sym er ∙ e), ep) refl
+    property-found number kind e ep h = h ∙ rw (entry-there q t i notes p number kind (sym er ∙ e), ep) refl

@@ -12,7 +12,7 @@ use crate::meet::meet_one;
 use crate::meet::meet_pattern;
 use crate::property::meet_property;
 use crate::right::literal_at;
-use instance::start::start_of;
+use instance::notes::place_noted;
 use operand::cause::Cause;
 use operand::literal_read::is_null_literal;
 use operand::name::find_named;
@@ -29,7 +29,7 @@ ghost use Rattle.record.specs.Kind.{kindOf};
 ghost use Rattle.instance.specs.Value.{valueAt};
 ghost use Rattle.judge.specs.Meaning as meaning;
 ghost use Rattle.judge.specs.Meaning.{rightOf, meantBy};
-ghost use Rattle.judge.specs.Environment.{entryNamed};
+ghost use Rattle.judge.specs.Environment.{entryNoted};
 ghost use Rattle.judge.specs.Answers.{judged, leftSeen};
 
 pub enum Judged {
@@ -42,11 +42,12 @@ fn judge_right<'a>(
     q: &'a [u8],
     t: &'a [u8],
     i: &'a [u8],
+    notes: &[usize],
     c: Comparison,
     of: ValueType,
     l: Left,
 ) -> Judged
-    ensures { λ r. ⌜ r ≡ judged (meaning.meet (c .left) (c .operation) (of .family) (leftSeen of (now (q .entry)) (now (i .entry)) l) (rightOf (of .family) (now (q .entry)) (entryNamed (now (q .entry)) (now (t .entry)) (now (i .entry))) (c .right))) ⌝ }
+    ensures { λ r. ⌜ r ≡ judged (meaning.meet (c .left) (c .operation) (of .family) (leftSeen of (now (q .entry)) (now (i .entry)) l) (rightOf (of .family) (now (q .entry)) (entryNoted (now (q .entry)) (now (t .entry)) (now (i .entry)) (now (notes .entry))) (c .right))) ⌝ }
 {
     let a = c.left;
     let o = c.operation;
@@ -64,7 +65,7 @@ fn judge_right<'a>(
             literal_at(family, q, i, x),
         ),
         RightSide::Elements(from, count, _) => meet_elements(a, o, q, i, of, l, from, count),
-        RightSide::Property(p, index) => meet_property(a, o, q, t, i, of, l, p, index),
+        RightSide::Property(p, index) => meet_property(a, o, q, t, i, notes, of, l, p, index),
         RightSide::Pattern(x) => meet_pattern(a, o, q, i, of, l, x),
     }
 }
@@ -74,11 +75,12 @@ fn judge_kind<'a>(
     q: &'a [u8],
     t: &'a [u8],
     i: &'a [u8],
+    notes: &[usize],
     c: Comparison,
     kind: usize,
     place: usize,
 ) -> Judged
-    ensures { λ r. ⌜ r ≡ judged (meantBy (now (q .entry)) (entryNamed (now (q .entry)) (now (t .entry)) (now (i .entry))) c (kindOf kind) (valueAt kind (now (i .entry)) place)) ⌝ }
+    ensures { λ r. ⌜ r ≡ judged (meantBy (now (q .entry)) (entryNoted (now (q .entry)) (now (t .entry)) (now (i .entry)) (now (notes .entry))) c (kindOf kind) (valueAt kind (now (i .entry)) place)) ⌝ }
 {
     let a = c.left;
     let quantifier = a.quantifier;
@@ -87,11 +89,20 @@ fn judge_kind<'a>(
     let first = path.first;
     match kind_of(kind) {
         Kind::Unknown => Judged::Fails(Cause::Name, first.start),
-        Kind::Scalar(of) => judge_right(q, t, i, c, of, left_scalar(quantifier, index, place)),
+        Kind::Scalar(of) => judge_right(
+            q,
+            t,
+            i,
+            notes,
+            c,
+            of,
+            left_scalar(quantifier, index, place),
+        ),
         Kind::Array { element: _, of } => judge_right(
             q,
             t,
             i,
+            notes,
             c,
             of,
             left_array(q, i, quantifier, index, body_at(i, place)),
@@ -99,15 +110,23 @@ fn judge_kind<'a>(
     }
 }
 
-// The comparison `c` of the query, over the table and an instance.
-pub fn judge<'a>(q: &'a [u8], t: &'a [u8], i: &'a [u8], c: Comparison) -> Judged
-    ensures { λ r. ⌜ r ≡ judged (meaning.meaning (now (q .entry)) (entryNamed (now (q .entry)) (now (t .entry)) (now (i .entry))) c) ⌝ }
+// The comparison `c` of the query, over the table and an instance in which each property's record is read at the place noted for it, whatever is noted.
+pub fn judge<'a>(q: &'a [u8], t: &'a [u8], i: &'a [u8], notes: &[usize], c: Comparison) -> Judged
+    ensures { λ r. ⌜ r ≡ judged (meaning.meaning (now (q .entry)) (entryNoted (now (q .entry)) (now (t .entry)) (now (i .entry)) (now (notes .entry))) c) ⌝ }
 {
     let a = c.left;
     let path = a.path;
     let first = path.first;
     match find_named(q, t, path) {
         Found::Absent => Judged::Fails(Cause::Name, first.start),
-        Found::Property { number, kind } => judge_kind(q, t, i, c, kind, start_of(i, number)),
+        Found::Property { number, kind } => judge_kind(
+            q,
+            t,
+            i,
+            notes,
+            c,
+            kind,
+            place_noted(notes, number),
+        ),
     }
 }

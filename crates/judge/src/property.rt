@@ -6,7 +6,7 @@ use crate::left::read_indexed;
 use crate::meet::meet_body;
 use crate::meet::meet_one;
 use crate::right::value_of_row;
-use instance::start::start_of;
+use instance::notes::place_noted;
 use operand::cause::Cause;
 use operand::name::find_named;
 use place::Source;
@@ -28,7 +28,7 @@ ghost use Rattle.value.specs.Read.{valueInRecord};
 ghost use Rattle.place.specs.Place.{bodyAt, bodyValue};
 ghost use Rattle.judge.specs.Meaning as meaning;
 ghost use Rattle.judge.specs.Meaning.{rightScalar, rightArray, rightKind, rightProperty};
-ghost use Rattle.judge.specs.Environment.{entryNamed};
+ghost use Rattle.judge.specs.Environment.{entryNoted};
 ghost use Rattle.judge.specs.Answers.{judged, leftSeen};
 
 // A scalar, in the record at a place.
@@ -119,12 +119,13 @@ pub fn meet_property<'a>(
     q: &'a [u8],
     t: &'a [u8],
     i: &'a [u8],
+    notes: &[usize],
     of: ValueType,
     l: Left,
     p: Path,
     index: Index,
 ) -> Judged
-    ensures { λ r. ⌜ r ≡ judged (meaning.meet a o (of .family) (leftSeen of (now (q .entry)) (now (i .entry)) l) (rightProperty (of .family) (now (q .entry)) (p .first .start) index (entryNamed (now (q .entry)) (now (t .entry)) (now (i .entry)) p))) ⌝ }
+    ensures { λ r. ⌜ r ≡ judged (meaning.meet a o (of .family) (leftSeen of (now (q .entry)) (now (i .entry)) l) (rightProperty (of .family) (now (q .entry)) (p .first .start) index (entryNoted (now (q .entry)) (now (t .entry)) (now (i .entry)) (now (notes .entry)) p))) ⌝ }
 {
     let first = p.first;
     match find_named(q, t, p) {
@@ -139,7 +140,7 @@ pub fn meet_property<'a>(
             first.start,
             index,
             kind,
-            start_of(i, number),
+            place_noted(notes, number),
         ),
     }
 }

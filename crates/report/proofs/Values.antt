@@ -37,6 +37,8 @@ use Rattle.filter.specs.declared.refusal.Checked.the-variants as checked
 use Rattle.filter.proofs.QueryAgree.{truthCall}
 use Rattle.filter.proofs.Laws.{short, evaluates}
 use Rattle.filter.proofs.Size.{steps-few}
+use Rattle.judge.specs.Environment.{entryNamed}
+use Rattle.judge.proofs.Named.{named-placed}
 use Rattle.report.specs.Line.{valueOf}
 
 pub number-small : (c : Cause) → numberOf c ≤ 31
@@ -91,7 +93,7 @@ module _ (q t i : List ℕ) (fits : length i ≤ 65535) where
   query-steps : (l : Comparisons) → query q ≡ good l → querySteps (meantIn q t i) l ≤ 4194304
   unfolding querySteps
   query-steps l e =
-      let b = steps-below (λ c. truthOf (meantIn q t i c)) (λ c. stepsOf (meantIn q t i c)) (λ c. 1 + length i) (λ c. steps-few q t i c) l in
+      let b = steps-below (λ c. truthOf (meantIn q t i c)) (λ c. stepsOf (meantIn q t i c)) (λ c. 1 + length i) (λ c. steps-few q t i (entryNamed q t i) (named-placed q t i) c) l in
       let s = sums-query (1 + length i) q l e in
       omega arith
 
@@ -122,4 +124,4 @@ module _ (q t i : List ℕ) (accepted : check q t ≡ checked.Accepted) where
   value-by b Conforming e = answer-small b (steps q t i) (steps-small q t i (short t i e refl))
 
   pub value-small : valueOf (evaluate q t i) ≤ 4194304
-  value-small = rw (evaluates q t i accepted refl) (value-by (truthCall q t i (callOf q t)) (conformity t i) refl)
+  value-small = rw (evaluates q t i accepted) (value-by (truthCall (meantIn q t i) (callOf q t)) (conformity t i) refl)

@@ -23,7 +23,7 @@ use Rattle.instance.specs.declared.conform.Conformity.the-variants.{Conforming,
 use Rattle.instance.proofs.Decides.{long-exactly}
 use Rattle.filter.specs.Refusal.{callOf}
 use Rattle.filter.specs.Check.{check}
-use Rattle.filter.specs.Evaluate.{answerIf, evaluate, steps}
+use Rattle.filter.specs.Evaluate.{meantIn, answerIf, evaluate, steps}
 use Rattle.filter.specs.Demand3.{instanceRefused, instanceTooLong}
 use Rattle.filter.specs.declared.refusal.Checked.the-variants as checked
 use Rattle.filter.specs.declared.refusal.Answer.{Answer}
@@ -89,12 +89,12 @@ module _ (q t i : List ℕ) (accepted : check q t ≡ checked.Accepted) (h : len
   fails-as b n (Fault TooLong p) e f = absurd (let l = long-exactly t i .0 (rw e tt) in omega arith)
   fails-as b n (Fault Nonconforming p) e f = (p, refl)
 
-  comes-to : evaluate q t i ≡ answerIf (conformity t i) (truthCall q t i (callOf q t)) (steps q t i)
-  comes-to = evaluates q t i accepted refl
+  comes-to : evaluate q t i ≡ answerIf (conformity t i) (truthCall (meantIn q t i) (callOf q t)) (steps q t i)
+  comes-to = evaluates q t i accepted
 
   pub fails-31 : markOf (evaluate q t i) ≡ 255 → (p : ℕ) × (evaluate q t i ≡ instanceRefused p)
   fails-31 e =
-      let w = fails-as (truthCall q t i (callOf q t)) (steps q t i) (conformity t i) refl (ap markOf (sym comes-to) ∙ e) in
+      let w = fails-as (truthCall (meantIn q t i) (callOf q t)) (steps q t i) (conformity t i) refl (ap markOf (sym comes-to) ∙ e) in
       (w .0, comes-to ∙ w .1)
 
   pub fails-exactly : (markOf (evaluate q t i) ≡ 255) ↔ (Conforms t i → ⊥)

@@ -6,6 +6,9 @@ use Rattle.filter.proofs.check.check_comparison.Tie as tie
 piece-requires : tie.Need-piece-requires
 piece-requires c κs = search needs
 
+slice-aggregate-judge : tie.Need-slice-aggregate-judge
+slice-aggregate-judge c = search needs
+
 judge-requires : tie.Need-judge-requires
 judge-requires c κs = search needs
 
@@ -23,4 +26,12 @@ returns-2 c = search law.comparison-tells
 
 pub check-comparison-spec : {M : Type 1} → statement M
 check-comparison-spec =
-    tie.close (tie.spec piece-requires judge-requires enum-known-cause enum-told returns returns-2)
+    tie.close
+    (tie.spec
+    piece-requires
+    slice-aggregate-judge
+    judge-requires
+    enum-known-cause
+    enum-told
+    returns
+    returns-2)

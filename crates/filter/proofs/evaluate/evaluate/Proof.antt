@@ -1,5 +1,5 @@
-use Rattle.filter.proofs.Laws as law
 use borrow.Author.Needs.{needs}
+use Rattle.filter.proofs.Laws as law
 use Rattle.filter.proofs.evaluate.evaluate.Statement.{statement}
 use Rattle.filter.proofs.evaluate.evaluate.Tie as tie
 
@@ -12,8 +12,11 @@ enum-known-r c = search needs
 enum-told : tie.Need-enum-told
 enum-told c = search needs
 
+slice-aggregate-evaluate-accepted : tie.Need-slice-aggregate-evaluate-accepted
+slice-aggregate-evaluate-accepted c = search needs
+
 evaluate-accepted-requires : tie.Need-evaluate-accepted-requires
-evaluate-accepted-requires c κs = search law.accepts
+evaluate-accepted-requires c κs = (search law.accepts, search needs)
 
 returns : tie.Need-returns
 returns c = search law.evaluate-refused
@@ -24,4 +27,11 @@ returns-2 c = search needs
 pub evaluate-spec : {M : Type 1} → statement M
 evaluate-spec =
     tie.close
-    (tie.spec check-requires enum-known-r enum-told evaluate-accepted-requires returns returns-2)
+    (tie.spec
+    check-requires
+    enum-known-r
+    enum-told
+    slice-aggregate-evaluate-accepted
+    evaluate-accepted-requires
+    returns
+    returns-2)

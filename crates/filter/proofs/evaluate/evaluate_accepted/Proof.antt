@@ -1,5 +1,5 @@
-use Rattle.filter.proofs.Laws as law
 use borrow.Author.Needs.{needs}
+use Rattle.filter.proofs.Laws as law
 use Rattle.filter.proofs.evaluate.evaluate_accepted.Statement.{statement}
 use Rattle.filter.proofs.evaluate.evaluate_accepted.Tie as tie
 
@@ -12,17 +12,20 @@ enum-known-cause c = search needs
 enum-told : tie.Need-enum-told
 enum-told c = search needs
 
-walk-requires : tie.Need-walk-requires
-walk-requires c κs = search law.short
+evaluate-noted-requires : tie.Need-evaluate-noted-requires
+evaluate-noted-requires c κs = (search needs, search law.short)
 
-answer-of-requires : tie.Need-answer-of-requires
-answer-of-requires c κs = search needs
+same-length : tie.Need-same-length
+same-length c = search needs
 
 returns : tie.Need-returns
-returns c = search law.evaluate-nonconforming
+returns c = (search law.evaluate-nonconforming, search needs, search needs)
+
+same-length-2 : tie.Need-same-length-2
+same-length-2 c = search needs
 
 returns-2 : tie.Need-returns-2
-returns-2 c = search law.evaluate-answers
+returns-2 c = (search law.walked-answers, search needs, search needs)
 
 pub evaluate-accepted-spec : {M : Type 1} → statement M
 evaluate-accepted-spec =
@@ -31,7 +34,8 @@ evaluate-accepted-spec =
     check-instance-requires
     enum-known-cause
     enum-told
-    walk-requires
-    answer-of-requires
+    evaluate-noted-requires
+    same-length
     returns
+    same-length-2
     returns-2)

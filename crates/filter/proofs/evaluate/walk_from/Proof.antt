@@ -5,16 +5,16 @@ use native.Mathlib.Omega.{arith}
 use Rattle.syntax.specs.Scan.{scan}
 use Rattle.query_text.specs.Query.{queryFrom}
 use Rattle.short_circuit.specs.Walk.{walkQuery, initial, stateOf}
-use Rattle.short_circuit.proofs.Loop.{walk-first, walk-out, walk-none, walk-last, walk-more}
-use Rattle.filter.specs.Answers.{truthIn, stepsIn}
+use Rattle.short_circuit.proofs.Loop.{walk-first, walk-none, walk-last, walk-more, walk-out}
+use Rattle.filter.specs.Answers.{truthNoted, stepsNoted}
 use Rattle.filter.proofs.evaluate.walk_from.Statement.{statement}
 use Rattle.filter.proofs.evaluate.walk_from.Tie as tie
 
 abbrev Inv-loop : tie.InvT-loop
-Inv-loop q t i grouped token₀ left₀ chains₀ steps₀ token left chains steps = (walkQuery (truthIn q t i) (stepsIn q t i) initial 0 (queryFrom left₀ (scan q) grouped token₀) ≡ walkQuery (truthIn q t i) (stepsIn q t i) (stateOf chains) steps (queryFrom left (scan q) grouped token)) × (steps + 65536 * left ≤ 4194304)
+Inv-loop q t i notes grouped token₀ left₀ chains₀ steps₀ token left chains steps = (walkQuery (truthNoted q t i notes) (stepsNoted q t i notes) initial 0 (queryFrom left₀ (scan q) grouped token₀) ≡ walkQuery (truthNoted q t i notes) (stepsNoted q t i notes) (stateOf chains) steps (queryFrom left (scan q) grouped token)) × (steps + 65536 * left ≤ 4194304)
 
 abbrev μ-loop : tie.MeasureT-loop
-μ-loop q t i grouped token₀ left₀ chains₀ steps₀ token left chains steps = left
+μ-loop q t i notes grouped token₀ left₀ chains₀ steps₀ token left chains steps = left
 
 start-requires : tie.Need-start-requires Inv-loop μ-loop
 start-requires c κs = search needs
@@ -46,8 +46,8 @@ is-last-requires c κs = search needs
 finish-requires : tie.Need-finish-requires Inv-loop μ-loop
 finish-requires c κs = search needs
 
-add-t19 : tie.Need-add-t19 Inv-loop μ-loop
-add-t19 c = search needs
+add-t20 : tie.Need-add-t20 Inv-loop μ-loop
+add-t20 c = omega (arith, c .before .before .before .before .before .before .before .before .before .before .before .loop .inv .1, c .before .before .before .before .judge-if .ensures .1, (c .before .before .before .before .before .before .before .before .before .before .before .before .before .before .before .before .before .pre))
 
 returns-2 : tie.Need-returns-2 Inv-loop μ-loop
 returns-2 c = search walk-last
@@ -56,7 +56,7 @@ advance-requires : tie.Need-advance-requires Inv-loop μ-loop
 advance-requires c κs = search needs
 
 add-steps : tie.Need-add-steps Inv-loop μ-loop
-add-steps c = omega (arith, c .before .before .before .before .before .before .before .before .before .before .before .loop .inv .1, c .before .before .before .before .judge-if .ensures .1, (c .before .before .before .before .before .before .before .before .before .before .before .before .before .before .before .before .pre))
+add-steps c = omega (arith, c .before .before .before .before .before .before .before .before .before .before .before .loop .inv .1, c .before .before .before .before .judge-if .ensures .1, (c .before .before .before .before .before .before .before .before .before .before .before .before .before .before .before .before .before .pre))
 
 sub-left : tie.Need-sub-left Inv-loop μ-loop
 sub-left c = search needs
@@ -65,7 +65,7 @@ loop-less : tie.Need-loop-less Inv-loop μ-loop
 loop-less c = search needs
 
 loop-again : tie.Need-loop-again Inv-loop μ-loop
-loop-again c = (search walk-more, omega (arith, c .before .before .before .before .before .before .before .before .before .before .before .loop .inv .1, c .before .before .before .before .judge-if .ensures .1, c .before .before .before .before .before .before .before .before .before .before .loop-test .taken, (c .before .before .before .before .before .before .before .before .before .before .before .before .before .before .before .before .pre)))
+loop-again c = (search walk-more, omega (arith, c .before .before .before .before .before .before .before .before .before .before .before .loop .inv .1, c .before .before .before .before .judge-if .ensures .1, c .before .before .before .before .before .before .before .before .before .before .loop-test .taken, (c .before .before .before .before .before .before .before .before .before .before .before .before .before .before .before .before .before .pre)))
 
 returns-3 : tie.Need-returns-3 Inv-loop μ-loop
 returns-3 c = search walk-out
@@ -86,7 +86,7 @@ walk-from-spec =
     judge-if-requires
     is-last-requires
     finish-requires
-    add-t19
+    add-t20
     returns-2
     advance-requires
     add-steps

@@ -1,23 +1,21 @@
 use borrow.Author.Needs.{needs}
-use Rattle.instance.proofs.Laws as law
-use Rattle.record.proofs.Reach as reach
-use Rattle.record.specs.Record.{records}
-use lib.ListN.{length}
 use Prim.Native.Nat.{_-_}
-use mathlib.Core.Path.{_≡_, refl}
-use Rattle.table.specs.Properties.{kindsIn}
-use Rattle.instance.specs.Fault.{faultIn}
+use native.Mathlib.Omega.{arith}
+use lib.ListN.{length}
+use Rattle.record.proofs.Reach as reach
+use Rattle.instance.proofs.Noting as law
+use Rattle.instance.proofs.Noting.{Walking}
 use Rattle.instance.proofs.conform.walk_beside.Statement.{statement}
 use Rattle.instance.proofs.conform.walk_beside.Tie as tie
 
 abbrev Inv-loop : tie.InvT-loop
-Inv-loop t first i row₀ at₀ row at = faultIn i (kindsIn (records t first)) (records i 0) ≡ faultIn i (kindsIn (records t row)) (records i at)
+Inv-loop t first i notes₀ row₀ at₀ number₀ notes row at number = Walking t i first notes₀ notes row at number
 
 abbrev μ-loop : tie.MeasureT-loop
-μ-loop t first i row₀ at₀ row at = length t - row
+μ-loop t first i notes₀ row₀ at₀ number₀ notes row at number = length t - row
 
 loop-holds : tie.Need-loop-holds Inv-loop μ-loop
-loop-holds c = refl
+loop-holds c = search law.walking-begins
 
 record-at-requires : tie.Need-record-at-requires Inv-loop μ-loop
 record-at-requires c κs = search needs
@@ -31,11 +29,17 @@ step-at-requires c κs = search needs
 enum-known-then : tie.Need-enum-known-then Inv-loop μ-loop
 enum-known-then c = search needs
 
+note-requires : tie.Need-note-requires Inv-loop μ-loop
+note-requires c κs = search needs
+
+add-number : tie.Need-add-number Inv-loop μ-loop
+add-number c = let m = law.walking-room _ _ _ _ _ _ _ _ (c .before .before .before .before .before .before .before .before .before .before .before .before .loop .inv) (c .before .before .before .before .before .before .before .before .before .before .before .record-at .ensures) (c .before .before .before .before .before .before .before .before .before .kind .given .1) in omega arith
+
 loop-less : tie.Need-loop-less Inv-loop μ-loop
 loop-less c = search reach.step-less
 
 loop-again : tie.Need-loop-again Inv-loop μ-loop
-loop-again c = search law.beside-next
+loop-again c = search law.walking-next
 
 enum-known-place : tie.Need-enum-known-place Inv-loop μ-loop
 enum-known-place c = search needs
@@ -43,8 +47,11 @@ enum-known-place c = search needs
 nonconforming-requires : tie.Need-nonconforming-requires Inv-loop μ-loop
 nonconforming-requires c κs = search needs
 
+same-length : tie.Need-same-length Inv-loop μ-loop
+same-length c = search law.walking-same
+
 returns : tie.Need-returns Inv-loop μ-loop
-returns c = search law.beside-wrong
+returns c = (search law.wrong-found, search law.wrong-noted, search law.walking-same)
 
 enum-told : tie.Need-enum-told Inv-loop μ-loop
 enum-told c = search needs
@@ -52,8 +59,11 @@ enum-told c = search needs
 further-requires : tie.Need-further-requires Inv-loop μ-loop
 further-requires c κs = search needs
 
+same-length-2 : tie.Need-same-length-2 Inv-loop μ-loop
+same-length-2 c = search law.walking-same
+
 returns-2 : tie.Need-returns-2 Inv-loop μ-loop
-returns-2 c = search law.beside-broken
+returns-2 c = (search law.broken-found, search law.broken-noted, search law.walking-same)
 
 enum-told-2 : tie.Need-enum-told-2 Inv-loop μ-loop
 enum-told-2 c = search needs
@@ -61,8 +71,11 @@ enum-told-2 c = search needs
 further-requires-2 : tie.Need-further-requires-2 Inv-loop μ-loop
 further-requires-2 c κs = search needs
 
+same-length-3 : tie.Need-same-length-3 Inv-loop μ-loop
+same-length-3 c = search law.walking-same
+
 returns-3 : tie.Need-returns-3 Inv-loop μ-loop
-returns-3 c = search law.beside-end
+returns-3 c = (search law.end-found, search law.end-noted, search law.walking-same)
 
 pub walk-beside-spec : {M : Type 1} → statement M
 walk-beside-spec =
@@ -75,14 +88,19 @@ walk-beside-spec =
     enum-known-kind
     step-at-requires
     enum-known-then
+    note-requires
+    add-number
     loop-less
     loop-again
     enum-known-place
     nonconforming-requires
+    same-length
     returns
     enum-told
     further-requires
+    same-length-2
     returns-2
     enum-told-2
     further-requires-2
+    same-length-3
     returns-3)

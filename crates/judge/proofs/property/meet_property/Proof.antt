@@ -12,8 +12,8 @@ enum-told c = search needs
 enum-known-number : tie.Need-enum-known-number
 enum-known-number c = search needs
 
-start-of-requires : tie.Need-start-of-requires
-start-of-requires c κs = search needs
+place-noted-requires : tie.Need-place-noted-requires
+place-noted-requires c κs = search needs
 
 meet-kind-requires : tie.Need-meet-kind-requires
 meet-kind-requires c κs = search needs
@@ -31,7 +31,7 @@ meet-property-spec =
     find-named-requires
     enum-told
     enum-known-number
-    start-of-requires
+    place-noted-requires
     meet-kind-requires
     returns
     returns-2)
