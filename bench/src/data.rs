@@ -32,11 +32,38 @@ impl Setting {
         Setting::new(122, instances)
     }
 
+    /// `Temp` as the last of 128 integers; the others are above 0 where it isn't, so that a filter that reads one of them
+    /// leaves other marks.
+    pub fn late(instances: usize) -> Setting {
+        const BEFORE: usize = 127;
+        let names = (0..BEFORE).map(|n| format!("Further{n}")).chain(["Temp".to_owned()]);
+        let table = names.fold(write(CLASS, b"P"), |out, name| [out, write(SINT64, name.as_bytes())].concat());
+        Setting::of(table, instances, |v| {
+            let others = write(SINT64, &(1 - v.temp).to_le_bytes()).repeat(BEFORE);
+            [others, write(SINT64, &v.temp.to_le_bytes())].concat()
+        })
+    }
+
+    /// The settings by name, each with as many instances as it is measured with.
+    pub fn named(name: &str) -> Setting {
+        match name {
+            "small" => Setting::small(2_000),
+            "large" => Setting::large(200),
+            "late" => Setting::late(200),
+            other => panic!("{other} is none of small, large and late"),
+        }
+    }
+
     pub fn new(further: usize, instances: usize) -> Setting {
         let further_body = write(STRING, "a string of forty characters, or nearly.".as_bytes()).repeat(further);
+        Setting::of(table(further), instances, |v| [record(v), further_body.clone()].concat())
+    }
+
+    /// So many instances, each with the records that its values make.
+    fn of(table: Vec<u8>, instances: usize, records: impl Fn(&Values) -> Vec<u8>) -> Setting {
         let values: Vec<Values> = (0..instances).map(values).collect();
-        let bodies = values.iter().map(|v| write(INSTANCE, &[record(v), further_body.clone()].concat()));
-        Setting { table: table(further), run: bodies.collect::<Vec<_>>().concat(), values }
+        let run = values.iter().flat_map(|v| write(INSTANCE, &records(v))).collect();
+        Setting { table, run, values }
     }
 
     pub fn marks(&self) -> Vec<u8> {
@@ -106,13 +133,19 @@ pub struct Filter {
     pub sql: Option<String>,
 }
 
-pub fn filters() -> Vec<Filter> {
-    let filter = |kind, fql: &str, sql: Option<&str>| Filter { kind, fql: fql.into(), sql: sql.map(Into::into) };
+fn filter(kind: &'static str, fql: &str, sql: Option<&str>) -> Filter {
+    Filter { kind, fql: fql.into(), sql: sql.map(Into::into) }
+}
+
+/// Those that name `Temp` and nothing else.
+pub fn filters_of_temp() -> Vec<Filter> {
     let many: Vec<String> = (0..16).map(|n| format!("Temp <> {}", 1000 + n)).collect();
     let many = many.join(" AND ");
-    vec![
-        filter("one comparison", "Temp > 0", Some("Temp > 0")),
-        filter("sixteen comparisons", &many, Some(&many)),
+    vec![filter("one comparison", "Temp > 0", Some("Temp > 0")), filter("sixteen comparisons", &many, Some(&many))]
+}
+
+pub fn filters() -> Vec<Filter> {
+    let others = [
         filter("array", "Dev = {3,14}", None),
         filter("ANY", "ANY Dev = 14", None),
         filter("LIKE", "Name LIKE 'FAN_.*'", Some("Name GLOB 'FAN_*'")),
@@ -121,5 +154,6 @@ pub fn filters() -> Vec<Filter> {
             &format!("Since < '{SUMMER}' AND R >= .25"),
             Some(&format!("Since < {} AND R >= .25", moment(SUMMER))),
         ),
-    ]
+    ];
+    filters_of_temp().into_iter().chain(others).collect()
 }

@@ -16,13 +16,19 @@ mod sqlite;
 mod stack;
 mod watch;
 
-use data::Setting;
+use data::{filters, filters_of_temp, Setting};
 
 fn main() {
-    if let [_, command, kind] = &std::env::args().collect::<Vec<_>>()[..] {
-        assert_eq!(command, "profile");
-        return profile::run(kind);
+    let arguments: Vec<String> = std::env::args().skip(1).collect();
+    match arguments.iter().map(String::as_str).collect::<Vec<_>>()[..] {
+        [] => measure(),
+        ["profile", kind] => profile::run(kind, "small"),
+        ["profile", kind, setting] => profile::run(kind, setting),
+        ref other => panic!("{other:?}: the arguments are none, profile KIND, or profile KIND SETTING"),
     }
+}
+
+fn measure() {
     match sqlite::version() {
         Some(version) => println!("SQLite {version}, in memory, prepared statement, rows loaded before the clock"),
         None => println!("SQLite left out: libsqlite3 with its header is not installed"),
@@ -31,11 +37,12 @@ fn main() {
     println!("RE2 left out: libre2 with its header is not installed");
 
     operations::check();
-    let (small, large) = (Setting::small(2_000), Setting::large(200));
+    let [small, large, late] = ["small", "large", "late"].map(Setting::named);
     operations::evaluate(&small, "small");
     operations::evaluate(&large, "large");
-    operations::mark(&small, "small");
-    operations::mark(&large, "large");
+    operations::mark(&small, "small instances", &filters());
+    operations::mark(&large, "large instances", &filters());
+    operations::mark(&late, "instances of 128 integers of which the filter names the last", &filters_of_temp());
     watch::run(&small);
     #[cfg(re2)]
     like::run();

@@ -43,14 +43,14 @@ pub fn evaluate(setting: &Setting, size: &str) {
 }
 
 /// The marks are cleared before each call, for every contestant.
-pub fn mark(setting: &Setting, size: &str) {
+pub fn mark(setting: &Setting, instances: &str, filters: &[Filter]) {
     let count = setting.values.len();
-    println!("\nmark, a run of {count} {size} instances, marks cleared first: nanoseconds for each instance");
+    println!("\nmark, a run of {count} {instances}, marks cleared first: nanoseconds for each instance");
     println!("{:34}{:>12}{:>18}{:>8}{:>12}{:>8}", "filter", "engine", "second evaluator", "ratio", "SQLite", "ratio");
     let rows = Rows::load(setting);
-    for filter in filters() {
+    for filter in filters {
         let select = filter.sql.as_ref().and_then(|condition| rows.select(condition));
-        let each: Vec<f64> = mark_times(&filter, setting, select).iter().map(|t| t / count as f64).collect();
+        let each: Vec<f64> = mark_times(filter, setting, select).iter().map(|t| t / count as f64).collect();
         print!("{:34}{:>12.0}{:>18.0}{:>8.2}", filter.kind, each[0], each[1], each[0] / each[1]);
         match each.get(2) {
             Some(sqlite) => println!("{sqlite:>12.0}{:>8.2}", each[0] / sqlite),

@@ -1,15 +1,16 @@
-//! One call of mark, one of watch and nothing else, for a profiler: `bench profile KIND`. Callgrind collects either with
-//! `--toggle-collect=fql_mark` or `--toggle-collect=fql_watch`.
+//! One call of mark, one of watch and nothing else, for a profiler: `bench profile KIND` over the small setting,
+//! `bench profile KIND large` over the large one and, for kinds that name `Temp` alone, `bench profile KIND late`.
+//! Callgrind collects either call with `--toggle-collect=fql_mark` or `--toggle-collect=fql_watch`.
 
 use crate::data::{filters, Setting};
 
-pub fn run(kind: &str) {
+pub fn run(kind: &str, setting: &str) {
     let filters = filters();
     let filter = filters.iter().find(|filter| filter.kind == kind).unwrap_or_else(|| {
         let kinds: Vec<&str> = filters.iter().map(|filter| filter.kind).collect();
         panic!("the kinds are {kinds:?}")
     });
-    let setting = Setting::small(2_000);
+    let setting = Setting::named(setting);
     let mut marks = setting.marks();
     let totals = fql::mark(filter.fql.as_bytes(), &setting.table, &setting.run, &mut marks).unwrap();
     println!("{totals:?}");
