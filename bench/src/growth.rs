@@ -1,6 +1,7 @@
-//! How the time grows with one size at a time, the others fixed: linear where the last column stays level.
+//! How the time grows with one size at a time, the others fixed: linear where the last column stays level. In the last
+//! group an index grows over instances that stay the same: there it stays level where the index doesn't count.
 
-use crate::clock::{measure, Call};
+use crate::clock::{compare, measure, Call};
 use crate::data::Setting;
 use reference::kind::{CLASS, INSTANCE, STRING};
 use reference::record::write;
@@ -22,6 +23,7 @@ pub fn run() {
     for n in [1_000, 2_000, 4_000, 8_000, 16_000, 32_000, 64_000] {
         text_row("characters of a LIKE text", n);
     }
+    over_indices();
 }
 
 fn row(what: &str, units: usize, setting: &Setting, query: &[u8]) {
@@ -36,6 +38,28 @@ fn text_row(what: &str, units: usize) {
     let mut marks = [0];
     let call: Call = Box::new(|| fql::mark(b"S LIKE '[a-z]*'", &table, &run, &mut marks).unwrap().included);
     print_row(what, units, measure(call), units);
+}
+
+/// All indices take turns, so that a slower moment of the machine is no index's.
+fn over_indices() {
+    let setting = Setting::small(500);
+    let count = setting.values.len();
+    let indices = [4, 16, 64, 256, 1_024, 4_096, 16_384, 65_535];
+    for index in indices {
+        assert_eq!(past_the_end(&setting, index)(), 0, "an instance is included, at index {index}");
+    }
+    let times = compare(&mut indices.map(|index| past_the_end(&setting, index)));
+    println!("\ngrowth of mark with the index, {count} instances: nanoseconds for a call, and for each instance");
+    print_head("an instance");
+    for (index, time) in indices.into_iter().zip(times) {
+        print_row("index past the end", index, time, count);
+    }
+}
+
+/// A call of mark on marks of its own. `Dev` has at most three elements, and NULL past its end is no 1.
+fn past_the_end(setting: &Setting, index: usize) -> Call<'_> {
+    let (query, mut marks) = (format!("Dev[{index}] = 1"), setting.marks());
+    Box::new(move || fql::mark(query.as_bytes(), &setting.table, &setting.run, &mut marks).unwrap().included)
 }
 
 /// The columns of a growth; the last is named by what a call's time is divided by.
