@@ -4,12 +4,12 @@ mod common;
 
 use std::collections::BTreeMap;
 
-use common::{agree, agree_on_marks};
+use common::{agree_on_marks, mark_of_evaluate};
 use reference::cases::call;
 use reference::cases::run::{random, RunCase};
 use reference::examples::runs;
 use reference::random::{for_each_seed, Random};
-use reference::{Refusal, Totals};
+use reference::Totals;
 
 const CASES: usize = 12_000;
 /// How often each total and refusal has to come up.
@@ -29,14 +29,7 @@ fn hold_to_evaluate(case: &RunCase, totals: Totals, marks: &[u8]) {
     let instances = reference::mark::instances(&case.run).unwrap();
     assert_eq!(totals.included + totals.excluded + totals.failed, instances.len() as u64);
     for (instance, mark) in instances.iter().zip(marks) {
-        let expected = match agree(&case.query, &case.table, instance) {
-            Ok(answer) if answer.included => fql::INCLUDED,
-            Ok(_) => fql::EXCLUDED,
-            Err(Refusal { number, .. }) => {
-                assert_eq!(number, 31);
-                fql::FAILED
-            }
-        };
+        let expected = mark_of_evaluate(&case.query, &case.table, instance);
         assert_eq!(*mark, expected, "{}", call("agree", &[&case.query, &case.table, instance]));
     }
     assert_eq!(marks[instances.len()..], case.marks[instances.len()..]);

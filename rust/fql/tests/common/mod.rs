@@ -46,6 +46,18 @@ pub fn agree_on_marks(query: &[u8], table: &[u8], run: &[u8], marks: &[u8]) -> (
     same((totals, found), (expected_totals, expected), || call("agree_on_marks", &[query, table, run, marks]))
 }
 
+/// The mark for what both say of an instance by itself, under a query that the check accepts.
+pub fn mark_of_evaluate(query: &[u8], table: &[u8], instance: &[u8]) -> u8 {
+    match agree(query, table, instance) {
+        Ok(answer) if answer.included => fql::INCLUDED,
+        Ok(_) => fql::EXCLUDED,
+        Err(Refusal { number, .. }) => {
+            assert_eq!(number, 31, "{}", call("agree", &[query, table, instance]));
+            fql::FAILED
+        }
+    }
+}
+
 /// What both say of a watch over a run, and the marks that both leave behind.
 pub fn agree_on_watch(
     query: &[u8],

@@ -19,4 +19,6 @@ mod seen;
 mod tables;
 mod tokens;
 mod unicode;
+mod wide;
+mod wide_runs;
 mod widths;

@@ -208,17 +208,22 @@ fn is_short(tokens: &[String]) -> bool {
 
 /// A query that the check accepts, unless the table has no property.
 pub fn query(r: &mut Random, s: &Source) -> Vec<u8> {
-    let tokens = query_tokens(r, s);
+    query_of(r, s, |r| match r.below(40) {
+        0..=19 => 1,
+        20..=38 => 2 + r.below(4),
+        _ => 6 + r.below(30),
+    })
+}
+
+/// The same with so many comparisons.
+pub fn query_of(r: &mut Random, s: &Source, count: impl Fn(&mut Random) -> usize) -> Vec<u8> {
+    let tokens = query_tokens(r, s, count);
     write(r, &tokens).0
 }
 
-fn query_tokens(r: &mut Random, s: &Source) -> Tokens {
+fn query_tokens(r: &mut Random, s: &Source, count: impl Fn(&mut Random) -> usize) -> Tokens {
     loop {
-        let n = match r.below(40) {
-            0..=19 => 1,
-            20..=38 => 2 + r.below(4),
-            _ => 6 + r.below(30),
-        };
+        let n = count(r);
         let comparisons: Vec<Tokens> = (0..n).filter_map(|_| any(r, s)).collect();
         if comparisons.is_empty() {
             return vec!["Nope".to_owned(), equality(r), literal::any(r)];

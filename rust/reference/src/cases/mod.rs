@@ -17,6 +17,7 @@ mod table;
 mod tokens;
 mod value;
 pub mod watch;
+pub mod wide;
 pub mod widened;
 mod wrong;
 

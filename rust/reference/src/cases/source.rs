@@ -18,6 +18,8 @@ pub struct Source {
     pub table: Table,
     pub instance: Vec<u8>,
     pub held: Vec<Held>,
+    /// The properties that are picked before the others, mostly.
+    pub often: Vec<usize>,
 }
 
 fn body(record: &Record) -> Body {
@@ -34,8 +36,12 @@ fn held(kind: u16, record: &Record) -> Held {
 impl Source {
     pub fn new(r: &mut Random, table: Table) -> Source {
         let instance = value::instance(r, &table);
+        Source::with_instance(table, instance)
+    }
+
+    pub fn with_instance(table: Table, instance: Vec<u8>) -> Source {
         let held = table.properties.iter().zip(read(&instance).0).map(|(p, record)| held(p.kind, &record)).collect();
-        Source { table, instance, held }
+        Source { table, instance, held, often: Vec::new() }
     }
 
     pub fn random(r: &mut Random) -> Source {
@@ -60,7 +66,9 @@ impl Source {
     /// Some property whose kind keeps the rule.
     pub fn pick(&self, r: &mut Random, rule: impl Fn(u16) -> bool) -> Option<usize> {
         let fitting: Vec<usize> = (0..self.table.properties.len()).filter(|&n| rule(self.kind(n))).collect();
-        (!fitting.is_empty()).then(|| r.pick(&fitting))
+        let often: Vec<usize> = fitting.iter().copied().filter(|n| self.often.contains(n)).collect();
+        let from = if often.is_empty() || r.chance(4) { fitting } else { often };
+        (!from.is_empty()).then(|| r.pick(&from))
     }
 
     pub fn kind(&self, n: usize) -> u16 {

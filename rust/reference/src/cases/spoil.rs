@@ -23,7 +23,7 @@ pub fn table(r: &mut Random) -> Case {
 }
 
 /// The records before one, that one, and those after it.
-fn parted(bytes: &[u8], number: usize) -> (Vec<u8>, Vec<u8>, Vec<u8>) {
+pub fn parted(bytes: &[u8], number: usize) -> (Vec<u8>, Vec<u8>, Vec<u8>) {
     let (records, _) = read(bytes);
     let start = records[number].start;
     let end = start + 4 + records[number].body.len();
@@ -121,7 +121,7 @@ fn faulty_instance(r: &mut Random, s: &Source) -> (Vec<u8>, u64, u64) {
 }
 
 /// A record that isn't one of this kind.
-fn wrong_record(r: &mut Random, kind: u16) -> Vec<u8> {
+pub fn wrong_record(r: &mut Random, kind: u16) -> Vec<u8> {
     match r.below(6) {
         0 => write(NULL, &[0]),
         1 => {

@@ -62,7 +62,7 @@ fn empty(r: &mut Random) -> Table {
 }
 
 /// So many properties of random kinds, and the kinds asked for before them.
-fn filled(r: &mut Random, kinds: &[u16], more: usize) -> Table {
+pub fn filled(r: &mut Random, kinds: &[u16], more: usize) -> Table {
     let mut table = empty(r);
     for n in 0..kinds.len() + more {
         let name = new_name(r, &table);
