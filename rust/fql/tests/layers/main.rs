@@ -18,6 +18,7 @@ mod real;
 mod seen;
 mod tables;
 mod tokens;
+mod twelve;
 mod unicode;
 mod wide;
 mod wide_runs;
