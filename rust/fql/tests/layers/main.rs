@@ -6,6 +6,7 @@ mod calendar;
 #[path = "../common/mod.rs"]
 mod common;
 mod datetime;
+mod indices;
 mod instances;
 mod integer;
 mod joins;

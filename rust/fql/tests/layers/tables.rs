@@ -37,7 +37,7 @@ pub fn random_table(r: &mut Random) -> Vec<u8> {
 }
 
 /// A record of this kind that isn't NULL.
-fn some_value(kind: u16) -> Vec<u8> {
+pub fn some_value(kind: u16) -> Vec<u8> {
     let body: &[u8] = match kind & !ARRAY {
         BOOLEAN => &[1],
         REAL32 => &[0; 4],
