@@ -6,16 +6,21 @@ use mathlib.Core.Path.{_≡_, refl, sym, ap, _∙_}
 use native.Mathlib.Omega.{arith}
 use native.Mathlib.Numerals.{add-one}
 use lib.ListN.{length}
+use lib.Dec.{eqb}
 use lib.IntN.{ℤ}
 use borrow.Author.Tests.{lt-ltb, le-ltb, eq-eqb, ne-eqb, not-true, not-false}
 use Rattle.base.specs.Pick.{pick}
 use Rattle.base.specs.Part.{part}
+use Rattle.base.proofs.Says.{apart}
 use Rattle.record.specs.Record.{recordAt, follow, records}
 use Rattle.record.specs.Kind.{kindOf}
 use Rattle.record.specs.declared.read.RecordAt.{RecordAt}
 use Rattle.record.specs.declared.read.RecordAt.the-variants.{Whole, Broken, End}
+use Rattle.record.specs.declared.kind.Family.{Family}
+use Rattle.record.specs.declared.kind.Family.the-variants.{Boolean, Integer, Real, Text, Char16, Octets, Datetime, Reference}
 use Rattle.record.specs.declared.kind.ValueType.{ValueType}
 use Rattle.record.specs.declared.kind.Kind.{Kind}
+use Rattle.record.specs.declared.kind.Kind.the-variants.{Scalar}
 use Rattle.record.proofs.Records.{records-at, records-whole, records-broken, records-end}
 use Rattle.datetime.specs.Datetime.{isTimestamp, isInterval, moment, intervalLength, datetimeOf}
 use Rattle.datetime.specs.declared.Datetime.the-variants.{Timestamp, Interval, Malformed}
@@ -25,7 +30,7 @@ use Rattle.instance.specs.declared.conform.Conformity.{Conformity}
 use Rattle.instance.specs.declared.conform.Conformity.the-variants.{Conforming, Fault}
 use Rattle.instance.specs.declared.conform.Step.{Step}
 use Rattle.instance.specs.declared.conform.Step.the-variants.{Next, Wrong}
-use Rattle.instance.specs.Body.{isDatetime, datetimeFits, valueFits}
+use Rattle.instance.specs.Body.{isDatetime, datetimeFits, isNumber, familyFits, valueFits}
 use Rattle.instance.specs.Fault.{faultAt, isNull, slotFits, elementsFit, bodyFits, recordFits, furtherFault, faultIn, faultUnder, stepOf, stepAt}
 use Rattle.instance.specs.Start.{nextAt, startOf}
 
@@ -39,16 +44,43 @@ datetime-fits s e = e ∙ go (isTimestamp s) (isInterval s) (moment s) (interval
     go false true m n = refl
     go false false m n = refl
 
--- the record of a property
-module _ (k kind : ℕ) (s : List ℕ) (x : Bool) (e : x ≡ isNull kind s) where
-  pub record-null : x ≡ true → true ≡ recordFits k kind s
-  record-null h = rw (← e, h)
+-- a number by its length
+number-width : (f : Family) (width : ℕ) (s : List ℕ) → isNumber f ≡ true → eqb (length s) width ≡ familyFits f width s
+number-width Boolean width s e = absurd (apart e)
+number-width Integer width s e = refl
+number-width Real width s e = refl
+number-width Text width s e = absurd (apart e)
+number-width Char16 width s e = absurd (apart e)
+number-width Octets width s e = absurd (apart e)
+number-width Datetime width s e = absurd (apart e)
+number-width Reference width s e = absurd (apart e)
 
-  pub record-other : x ≡ false → (kind ≡ k → ⊥) → false ≡ recordFits k kind s
-  record-other h n = rw (← e, h, ne-eqb _ _ n)
+number-fits : (t : ValueType) (s : List ℕ) {r : Bool} → r ≡ isNumber (t .family) → r ≡ true → eqb (length s) (t .width) ≡ valueFits t s
+number-fits t s e h = number-width (t .family) (t .width) s (sym e ∙ h)
 
-  pub record-body : x ≡ false → kind ≡ k → (w : Kind) → w ≡ kindOf k → (y : Bool) → y ≡ bodyFits w s → y ≡ recordFits k kind s
-  record-body h n w g y f = rw (← e, h, eq-eqb _ _ n, ← g) f
+pub body-number : (s : List ℕ) {w : Kind} (t : ValueType) → w ≡ Scalar t → {r : Bool} → r ≡ isNumber (t .family) → r ≡ true → eqb (length s) (t .width) ≡ bodyFits w s
+body-number s t e er h = number-fits t s er h ∙ sym (ap (λ (v : Kind). bodyFits v s) e)
+
+-- the record of a property or an element, whose body keeps the value's rules or not
+module _ (k kind : ℕ) (s : List ℕ) (rules : Bool) (x : Bool) (e : x ≡ isNull kind s) where
+  pub slot-null : x ≡ true → true ≡ slotFits k kind s rules
+  slot-null h = rw (← e, h)
+
+  pub slot-other : x ≡ false → (kind ≡ k → ⊥) → false ≡ slotFits k kind s rules
+  slot-other h n = rw (← e, h, ne-eqb _ _ n)
+
+  slot-rules : x ≡ false → kind ≡ k → rules ≡ slotFits k kind s rules
+  slot-rules h n = rw (← e, h, eq-eqb _ _ n)
+
+module _ (k kind : ℕ) (s : List ℕ) (x : Bool) (e : x ≡ isNull kind s) (h : x ≡ false) (same : kind ≡ k) where
+  pub slot-number : (t : ValueType) {r : Bool} → r ≡ isNumber (t .family) → r ≡ true → eqb (length s) (t .width) ≡ slotFits k kind s (valueFits t s)
+  slot-number t er f = number-fits t s er f ∙ slot-rules k kind s (valueFits t s) x e h same
+
+  pub slot-value : (t : ValueType) {y : Bool} → y ≡ valueFits t s → y ≡ slotFits k kind s (valueFits t s)
+  slot-value t ey = ey ∙ slot-rules k kind s (valueFits t s) x e h same
+
+  pub slot-body : {w : Kind} → w ≡ kindOf k → {y : Bool} → y ≡ bodyFits w s → y ≡ recordFits k kind s
+  slot-body ew ey = ey ∙ ap (λ (v : Kind). bodyFits v s) ew ∙ slot-rules k kind s (bodyFits (kindOf k) s) x e h same
 
 -- the elements of an array
 module _ (s : List ℕ) (k : ℕ) (t : ValueType) (at n : ℕ) (w : Bool) (inv : w ≡ elementsFit k t s n (records s at)) (r : RecordAt) (e : r ≡ recordAt s at) where

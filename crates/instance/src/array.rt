@@ -1,4 +1,5 @@
-// The rules of a record of a property or an element.
+// The rules of a record of a property or an element. Numbers are told by their length before `value_fits` is called: they are most of what instances hold.
+use crate::body::is_number;
 use crate::body::value_fits;
 use base::bytes::piece;
 use record::kind::Kind;
@@ -18,7 +19,17 @@ pub fn is_null(kind: usize, body: &[u8]) -> bool
 fn element_fits(body: &[u8], element: usize, of: ValueType, kind: usize) -> bool
     ensures { λ r. ⌜ r ≡ slotFits element kind (now (body .entry)) (valueFits of (now (body .entry))) ⌝ }
 {
-    is_null(kind, body) | ((kind == element) & value_fits(body, of))
+    if is_null(kind, body) {
+        return true;
+    }
+    if kind != element {
+        return false;
+    }
+    let family = of.family;
+    if is_number(family) {
+        return body.len() == of.width;
+    }
+    value_fits(body, of)
 }
 
 // Whether the bytes are 0 to 256 records, each NULL or an element.
@@ -55,7 +66,13 @@ fn body_fits(body: &[u8], kind: Kind) -> bool
 {
     match kind {
         Kind::Unknown => false,
-        Kind::Scalar(of) => value_fits(body, of),
+        Kind::Scalar(of) => {
+            let family = of.family;
+            if is_number(family) {
+                return body.len() == of.width;
+            }
+            value_fits(body, of)
+        }
         Kind::Array { element, of } => array_fits(body, element, of),
     }
 }

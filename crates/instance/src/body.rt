@@ -3,7 +3,7 @@ use record::kind::Family;
 use record::kind::ValueType;
 use unicode::text::Utf8;
 ghost use mathlib.Core.Path.{_≡_};
-ghost use Rattle.instance.specs.Body.{booleanFits, textFits, char16Fits, datetimeFits, familyFits, valueFits};
+ghost use Rattle.instance.specs.Body.{booleanFits, textFits, char16Fits, datetimeFits, isNumber, familyFits, valueFits};
 
 fn boolean_fits(s: &[u8]) -> bool
     ensures { λ r. ⌜ r ≡ booleanFits (now (s .entry)) ⌝ }
@@ -54,4 +54,20 @@ pub fn value_fits(s: &[u8], of: ValueType) -> bool
 {
     let family = of.family;
     family_fits(s, family, of.width)
+}
+
+// Whether a body of the family is any bytes of its width.
+pub(crate) fn is_number(family: Family) -> bool
+    ensures { λ r. ⌜ r ≡ isNumber family ⌝ }
+{
+    match family {
+        Family::Boolean => false,
+        Family::Integer => true,
+        Family::Real => true,
+        Family::Text => false,
+        Family::Char16 => false,
+        Family::Octets => false,
+        Family::Datetime => false,
+        Family::Reference => false,
+    }
 }

@@ -7,13 +7,15 @@ use native.Mathlib.Omega.{arith}
 use lib.ListN.{length, getD, take, drop, length-take, drop-of-length-le}
 use lib.Seq.{take-all}
 use lib.Dec.{eqb}
-use borrow.Author.Tests.{le-leb, lt-leb, eq-eqb, ne-eqb, not-true, not-false}
+use borrow.Author.Tests.{le-leb, lt-leb, eq-eqb, ne-eqb, eqb-true, eqb-false, not-true, not-false}
+use Rattle.base.specs.Pick.{pick}
 use Rattle.base.specs.Part.{part}
 use Rattle.base.specs.Range.{within}
 use Rattle.base.specs.LittleEndian.{unsigned}
 use Rattle.base.proofs.Lists.{left-next}
 use Rattle.base.proofs.Says.{and-false}
 use Rattle.base.proofs.Digits.{within-high}
+use Rattle.record.specs.declared.read.RecordAt.{RecordAt}
 use Rattle.record.specs.declared.read.RecordAt.the-variants.{Whole, Broken, End}
 use Rattle.record.specs.Record.{numberAt, recordAt}
 use Rattle.record.specs.Name.{letter, nameByte, all, validName, lower, sameName}
@@ -27,18 +29,22 @@ number-of s b at e n f = f ∙ ap unsigned (take-all 8 b (rw e (simp length-take
 
 -- the record at an offset
 module _ (s : List ℕ) (at : ℕ) where
-  pub record-end : length s ≤ at → End ≡ recordAt s at
-  record-end h = sym (at-end s at h)
+  pub record-past : length s < at → End ≡ recordAt s at
+  record-past h = sym (at-end s at (omega arith))
 
-  module _ (h : at < length s) where
-    pub record-cut : length s - at < 4 → Broken ≡ recordAt s at
-    record-cut g = sym (at-broken s at h (omega arith))
+  module _ (h : at ≤ length s) where
+    pub record-short : length s - at < 4 → {r : RecordAt} → r ≡ pick (eqb (length s - at) 0) End Broken → r ≡ recordAt s at
+    record-short g e = e ∙ go (eqb (length s - at) 0) refl
+      where
+        go : (b : Bool) → eqb (length s - at) 0 ≡ b → pick b End Broken ≡ recordAt s at
+        go true f = sym (at-end s at (omega (arith, eqb-true (length s - at) 0 f)))
+        go false f = sym (at-broken s at (omega (arith, eqb-false (length s - at) 0 f)) (omega arith))
 
     module _ (g : 4 ≤ length s - at) (n : ℕ) (e : n ≡ numberAt s at) where
-      pub record-over : length s - at - 4 < n → Broken ≡ recordAt s at
-      record-over f = sym (at-broken s at h (omega arith))
+      pub record-over : length s < at + 4 + n → Broken ≡ recordAt s at
+      record-over f = sym (at-broken s at (omega arith) (omega arith))
 
-      pub record-whole : n ≤ length s - at - 4 → (k : ℕ) → k ≡ numberAt s (at + 2) → Whole k (at + 4) n (at + 4 + n) ≡ recordAt s at
+      pub record-whole : at + 4 + n ≤ length s → (k : ℕ) → k ≡ numberAt s (at + 2) → Whole k (at + 4) n (at + 4 + n) ≡ recordAt s at
       record-whole f k d = rw (d, e) (sym (at-whole s at (omega arith)))
 
 -- bytes of names, one after the other

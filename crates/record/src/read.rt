@@ -1,5 +1,7 @@
 // The record at an offset.
 ghost use mathlib.Core.Path.{_≡_};
+ghost use lib.Dec.{eqb};
+ghost use Rattle.base.specs.Pick.{pick};
 ghost use Rattle.record.specs.Record.{recordAt};
 
 // What stands at an offset: a whole record, one that runs past the end, or the end.
@@ -21,18 +23,30 @@ pub fn number_at(s: &[u8], at: usize) -> usize
     base::integer::unsigned_in(base::bytes::piece(s, at, 2)) as usize
 }
 
+// Where fewer bytes are left than a record's head takes.
+fn short_of(left: usize) -> RecordAt
+    ensures { λ r. ⌜ r ≡ pick (eqb left 0) RecordAt.End RecordAt.Broken ⌝ }
+{
+    if left == 0 {
+        return RecordAt::End;
+    }
+    RecordAt::Broken
+}
+
+// The tests are in an order in which a loop over records needs no more than two of them for each: what is left has a head, and the record ends within the slice.
 pub fn record_at(s: &[u8], at: usize) -> RecordAt
     ensures { λ r. ⌜ r ≡ recordAt (now (s .entry)) at ⌝ }
 {
-    if s.len() <= at {
+    if s.len() < at {
         return RecordAt::End;
     }
     let left = s.len() - at;
     if left < 4 {
-        return RecordAt::Broken;
+        return short_of(left);
     }
     let length = number_at(s, at);
-    if left - 4 < length {
+    let next = at + 4 + length;
+    if s.len() < next {
         return RecordAt::Broken;
     }
     let kind = number_at(s, at + 2);
@@ -40,6 +54,6 @@ pub fn record_at(s: &[u8], at: usize) -> RecordAt
         kind,
         start: at + 4,
         length,
-        next: at + 4 + length,
+        next,
     }
 }
