@@ -66,6 +66,9 @@ module _ (s : List ℕ) (h : shaped s ≡ true) where
   pub after-point : Field 15 6
   after-point = (rw (told .long) (omega arith), omega arith, told .after-point)
 
+  pub sign-there : 21 < length s
+  sign-there = rw (told .long) (omega arith)
+
   pub after-sign : Field 22 3
   after-sign = (rw (told .long) (omega arith), omega arith, told .after-sign)
 

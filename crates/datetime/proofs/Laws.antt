@@ -1,27 +1,29 @@
 -- One law for each exit of the functions that read a datetime, its premises in the order in which the code learns them.
-use mathlib.Core.Path.{_≡_, refl, _∙_, sym}
+use mathlib.Core.Path.{_≡_, refl, _∙_, sym, ap}
 use mathlib.Core.Bool.{Bool, true, false, not, _&&_, _||_}
 use mathlib.Core.List.{List}
+use mathlib.Core.Logic.{_⊎_, inl, inr}
 use Prim.Native.Nat.{ℕ, _-_, _≤_, _<_}
 use lib.Dec.{eqb, leb}
 use lib.ListN.{length}
-use lib.IntN.{ℤ, pos}
+use lib.IntN.{ℤ}
 use mir.Syntax.{w64}
 use mir.Val.{toZ, ofZ}
 use mir.Facts.{toZ-ofZ}
-use borrow.Author.Tests.{eq-eqb, ne-eqb, le-leb, lt-leb, not-true, not-false}
+use borrow.Author.Tests.{eq-eqb, ne-eqb, eqb-true, le-leb, lt-leb, not-true, not-false}
 use native.Mathlib.Omega.{arith}
 use Rattle.base.specs.Pick.{pick}
 use Rattle.base.specs.Part.{byteAt}
 use Rattle.base.specs.Digit.{allDigits}
+use Rattle.base.proofs.Says.{apart, and-both}
+use Rattle.base.proofs.Signed.{toZ-small}
 use Rattle.datetime.specs.Calendar.{leapYear, daysInMonth}
 use Rattle.datetime.specs.Fields.{isDate, isTime}
 use Rattle.datetime.specs.Text.{shaped, dateIn, intervalDays, timeIn, signIn, minutesIn}
 use Rattle.datetime.specs.Moment.{daysBefore, elapsed, offsetOf, momentAt}
-use Rattle.datetime.specs.Datetime.{isSign, isTimestamp, isInterval, datetimeOf}
+use Rattle.datetime.specs.Datetime.{isSign, isTimestamp, isInterval, moment, intervalLength, datetimeOf}
 use Rattle.datetime.specs.declared.fields.Date.{Date}
 use Rattle.datetime.specs.declared.fields.Time.{Time}
-use Rattle.datetime.specs.declared.Datetime.{Datetime}
 use Rattle.datetime.specs.declared.Datetime.the-variants.{Timestamp, Interval, Malformed}
 use Rattle.datetime.proofs.Bounds.{Shaped, shape-of}
 use Rattle.datetime.proofs.Moments.{moment-fits}
@@ -71,74 +73,6 @@ module _ (s : List ℕ) where
         unfolding shaped
         offset-digits h e = rw (eq-eqb _ _ long, eq-eqb _ _ point, ← first, not-false p good, ← second, not-false q h) e
 
--- a timestamp by its parts
-module _ {p : Bool} (d : Date) (t : Time) (sign minutes : ℕ) (sign-told : p ≡ isSign sign) where
-  abbrev stamped : Datetime
-  stamped = pick (isSign sign && isDate d) (Timestamp (momentAt (elapsed (daysBefore d) t) (offsetOf sign minutes))) Malformed
-
-  pub no-sign : not p ≡ true → Malformed ≡ stamped
-  no-sign h = rw (← sign-told, not-true p h)
-
-  module _ {q : Bool} (good : not p ≡ false) (date-told : q ≡ isDate d) where
-    pub no-date : not q ≡ true → Malformed ≡ stamped
-    no-date h = rw (← sign-told, not-false p good, ← date-told, not-true q h)
-
-    pub stamp-made :
-        {n l : ℕ} {r : ℤ} →
-        not q ≡ false →
-        n ≡ daysBefore d →
-        l ≡ elapsed n t →
-        l < 8640000000000000000 →
-        minutes < 1000 →
-        r ≡ momentAt l (offsetOf sign minutes) →
-        Timestamp (toZ w64 (ofZ w64 r)) ≡ stamped
-    stamp-made {n} {l} {r} h days local small few e =
-        rw (← sign-told, not-false p good, ← date-told, not-false q h, ← days, ← local, e, toZ-ofZ (moment-fits l sign minutes (omega arith) few))
-
--- what a text says
-module _ {r : Bool} (s : List ℕ) (shape : r ≡ shaped s) where
-  pub no-shape : not r ≡ true → Malformed ≡ datetimeOf s
-  unfolding datetimeOf
-  no-shape h = rw (← shape, not-true r h)
-
-  module _ (good : not r ≡ false) where
-    told : Shaped s
-    told = shape-of s (sym shape ∙ not-false r good)
-
-    pub sign-within : 21 < length s
-    sign-within = rw (told .long) (omega arith)
-
-    pub year-below : {d : Date} → d ≡ dateIn s → d .year < 10000
-    year-below e = rw e (told .year)
-
-    pub days-below : {n : ℕ} → n ≡ intervalDays s → n < 100000000
-    days-below e = rw e (told .days)
-
-    pub microsecond-below : {t : Time} → t ≡ timeIn s → t .microsecond < 1000000
-    microsecond-below e = rw e (told .microsecond)
-
-    pub minutes-below : {n : ℕ} → n ≡ minutesIn s → n < 1000
-    minutes-below e = rw e (told .minutes)
-
-    module _ {t : Time} {q : Bool} (time : t ≡ timeIn s) (timed : q ≡ isTime t) where
-      pub no-time : not q ≡ true → Malformed ≡ datetimeOf s
-      unfolding datetimeOf
-      no-time h = rw (← shape, not-false r good, ← time, ← timed, not-true q h)
-
-      module _ (in-time : not q ≡ false) {m : ℕ} (minutes : m ≡ minutesIn s) {a : Datetime} where
-        pub interval-read : signIn s ≡ 58 → {d : ℕ} → d ≡ intervalDays s → a ≡ pick (eqb m 0) (Interval (pos (elapsed d t))) Malformed → a ≡ datetimeOf s
-        unfolding datetimeOf
-        interval-read h days e = rw (← shape, not-false r good, ← time, ← timed, not-false q in-time, h, ← minutes, ← days) e
-
-        pub timestamp-read :
-            (signIn s ≡ 58 → ⊥) →
-            {d : Date} →
-            d ≡ dateIn s →
-            a ≡ pick (isSign (signIn s) && isDate d) (Timestamp (momentAt (elapsed (daysBefore d) t) (offsetOf (signIn s) m))) Malformed →
-            a ≡ datetimeOf s
-        unfolding datetimeOf
-        timestamp-read h date e = rw (← shape, not-false r good, ← time, ← timed, not-false q in-time, ← minutes, ← date, ne-eqb _ _ h) e
-
 -- whether it is one
 or-false : (b : Bool) → b ≡ (b || false)
 or-false true = refl
@@ -158,3 +92,90 @@ module _ {r : Bool} (s : List ℕ) (shape : r ≡ shaped s) where
 
       pub timestamp-by-date : (signIn s ≡ 58 → ⊥) → {p : Bool} → p ≡ isSign (signIn s) → {d : Date} → d ≡ dateIn s → {b : Bool} → b ≡ isDate d → (p && b) ≡ (isTimestamp s || isInterval s)
       timestamp-by-date h {p} ep ed {b} eb = rw (← shape, not-false r good, ← time, ← timed, not-false q in-time, ne-eqb _ _ h, ← ep, ← ed, ← eb) (or-false (p && b))
+
+-- what it says
+either : (a b : Bool) → (a || b) ≡ true → (a ≡ true) ⊎ (b ≡ true)
+either true b h = inl refl
+either false b h = inr h
+
+module _ {r : Bool} (s : List ℕ) (told : r ≡ (isTimestamp s || isInterval s)) where
+  pub says-nothing : not r ≡ true → Malformed ≡ datetimeOf s
+  unfolding datetimeOf
+  says-nothing h = go (isTimestamp s) (isInterval s) (sym told ∙ not-true r h)
+    where
+      go : (a b : Bool) → (a || b) ≡ false → Malformed ≡ pick a (Timestamp (moment s)) (pick b (Interval (intervalLength s)) Malformed)
+      go true b e = absurd (apart (sym e))
+      go false true e = absurd (apart (sym e))
+      go false false e = refl
+
+  module _ (good : not r ≡ false) where
+    one-of : (isTimestamp s ≡ true) ⊎ (isInterval s ≡ true)
+    one-of = either (isTimestamp s) (isInterval s) (sym told ∙ not-false r good)
+
+    pub known-shaped : shaped s ≡ true
+    known-shaped = go one-of
+      where
+        go : (isTimestamp s ≡ true) ⊎ (isInterval s ≡ true) → shaped s ≡ true
+        go (inl h) = and-both (shaped s) _ h .0
+        go (inr h) = and-both (shaped s) _ h .0
+
+    known-time : isTime (timeIn s) ≡ true
+    known-time = go one-of
+      where
+        go : (isTimestamp s ≡ true) ⊎ (isInterval s ≡ true) → isTime (timeIn s) ≡ true
+        go (inl h) = and-both (isTime (timeIn s)) _ (and-both (shaped s) _ h .1) .0
+        go (inr h) = and-both (isTime (timeIn s)) _ (and-both (shaped s) _ h .1) .0
+
+    bounds : Shaped s
+    bounds = shape-of s known-shaped
+
+    pub in-time : {t : Time} → t ≡ timeIn s → isTime t ≡ true
+    in-time e = rw e known-time
+
+    pub microsecond-below : {t : Time} → t ≡ timeIn s → t .microsecond < 1000000
+    microsecond-below e = rw e (bounds .microsecond)
+
+    pub days-below : {n : ℕ} → n ≡ intervalDays s → n < 100000000
+    days-below e = rw e (bounds .days)
+
+    pub minutes-below : {n : ℕ} → n ≡ minutesIn s → n < 1000
+    minutes-below e = rw e (bounds .minutes)
+
+    module _ (colon : signIn s ≡ 58) where
+      no-timestamp : isTimestamp s ≡ true → ⊥
+      no-timestamp h =
+          let p = and-both (isTime (timeIn s)) _ (and-both (shaped s) _ h .1) in
+          let q = and-both (isSign (signIn s)) _ (p .1) in
+          apart (sym (ap isSign colon) ∙ q .0)
+
+      pub says-interval : {t : Time} → t ≡ timeIn s → {d : ℕ} → d ≡ intervalDays s → {n : ℕ} → n ≡ elapsed d t → n < 8640000000000000000
+          → Interval (toZ w64 n) ≡ datetimeOf s
+      unfolding datetimeOf
+      says-interval et ed {n} en l = rw (toZ-small w64 n (omega arith), en, et, ed) (go (isTimestamp s) refl one-of)
+        where
+          go : (b : Bool) → isTimestamp s ≡ b → (isTimestamp s ≡ true) ⊎ (isInterval s ≡ true)
+              → Interval (intervalLength s) ≡ pick b (Timestamp (moment s)) (pick (isInterval s) (Interval (intervalLength s)) Malformed)
+          go true e h = absurd (no-timestamp e)
+          go false e (inl h) = absurd (no-timestamp h)
+          go false e (inr h) = rw h refl
+
+    module _ (other : signIn s ≡ 58 → ⊥) where
+      timestamp : isTimestamp s ≡ true
+      timestamp = go one-of
+        where
+          go : (isTimestamp s ≡ true) ⊎ (isInterval s ≡ true) → isTimestamp s ≡ true
+          go (inl h) = h
+          go (inr h) =
+              let p = and-both (isTime (timeIn s)) _ (and-both (shaped s) _ h .1) in
+              absurd (other (eqb-true (signIn s) 58 (and-both (eqb (signIn s) 58) _ (p .1) .0)))
+
+      pub dated : {d : Date} → d ≡ dateIn s → (isDate d ≡ true) × (d .year < 10000)
+      dated e =
+          let p = and-both (isTime (timeIn s)) _ (and-both (shaped s) _ timestamp .1) in
+          rw e (and-both (isSign (signIn s)) _ (p .1) .1, bounds .year)
+
+      pub says-timestamp : {t : Time} → t ≡ timeIn s → {d : Date} → d ≡ dateIn s → {m : ℕ} → m ≡ daysBefore d → {n : ℕ} → n ≡ elapsed m t → n < 8640000000000000000
+          → {o : ℕ} → o ≡ minutesIn s → {z : ℤ} → z ≡ momentAt n (offsetOf (signIn s) o) → Timestamp (toZ w64 (ofZ w64 z)) ≡ datetimeOf s
+      unfolding datetimeOf
+      says-timestamp et ed em {n} en l eo ez =
+          rw (ez, toZ-ofZ (moment-fits n (signIn s) _ (omega arith) (minutes-below eo)), en, em, et, ed, eo, timestamp)

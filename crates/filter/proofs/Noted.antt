@@ -8,7 +8,7 @@ use Rattle.syntax.specs.declared.comparison.Comparison.{Comparison}
 use Rattle.table.specs.Properties.{kindsOf}
 use Rattle.instance.specs.Fault.{conformity}
 use Rattle.instance.specs.Value.{Entry}
-use Rattle.instance.specs.Noted.{Noted, notesAfter}
+use Rattle.instance.specs.Noted.{RightNotes, notesAfter}
 use Rattle.instance.specs.declared.conform.Conformity.{Conformity}
 use Rattle.instance.specs.declared.conform.Conformity.the-variants.{Conforming}
 use Rattle.instance.proofs.NotedPlaces.{walked-right}
@@ -19,7 +19,7 @@ use Rattle.filter.specs.Evaluate.{meantIn, evaluate}
 use Rattle.filter.specs.Noted.{answerCall, evaluateNoted}
 use Rattle.filter.proofs.QueryAgree.{evaluate-answer}
 
-pub noted-evaluates : (q t i notes : List ℕ) → conformity t i ≡ Conforming → Noted t i notes → evaluateNoted q t i notes ≡ evaluate q t i
+pub noted-evaluates : (q t i notes : List ℕ) → conformity t i ≡ Conforming → RightNotes t i notes → evaluateNoted q t i notes ≡ evaluate q t i
 unfolding evaluateNoted
 noted-evaluates q t i notes e w =
     ap (λ (env : Path → Entry). answerCall Conforming (λ (c : Comparison). meaning q env c) (callOf q t)) (right-notes q t i notes w)

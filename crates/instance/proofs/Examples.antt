@@ -27,8 +27,10 @@ use Rattle.instance.specs.Start
 use Rattle.instance.specs.Start.{startOf}
 use Rattle.instance.specs.Value
 use Rattle.instance.specs.Value.{environment}
+use Rattle.instance.specs.Noted
+use Rattle.instance.specs.Noted.{notesAfter}
 use Rattle.instance.specs.Sample.{sampleInstance}
-use Rattle.instance.specs.Examples.{one, types, samples, lengths, readings, integers, starts}
+use Rattle.instance.specs.Examples.{one, types, samples, lengths, readings, integers, starts, walks}
 
 all-judged : (results (λ (p : List ℕ × List ℕ). conformity (p .0) (p .1)) types ≡ expected types)
     × (results (conformity sampleTable) samples ≡ expected samples) × (results (conformity sampleTable) lengths ≡ expected lengths)
@@ -52,3 +54,12 @@ all-read = (refl, refl)
 sample-laid : (results (startOf sampleInstance) starts ≡ expected starts) × (length sampleInstance ≡ 95)
 unfolding LittleEndian.unsigned Record.recordAt Write.littleEndian Write.stored Write.write Start.startOf
 sample-laid = (refl, refl)
+
+all-walked : results (λ (p : List ℕ × List ℕ). notesAfter sampleTable (p .0) (p .1)) walks ≡ expected walks
+unfolding
+    LittleEndian.unsigned Walk.walk Walk.from Record.recordAt Record.records Write.littleEndian Write.stored Write.write Kind.integerKind Kind.scalarKind Kind.kindOf
+    Range.within Digit.digitOf Digit.allDigits Digit.valueOf Properties.kindsIn
+    WellFormed.inRange WellFormed.fits WellFormed.sequenceIn WellFormed.sequenceAt WellFormed.illFormedFrom
+    Calendar.leapYears Calendar.daysBeforeMonth Text.shaped Text.dateIn Text.timeIn Datetime.datetimeOf
+    Body.booleanFits Body.textFits Body.char16Fits Body.datetimeFits Fault.elementsFit Start.startOf Noted.noted Noted.fitting Noted.notesUnder
+all-walked = refl

@@ -23,7 +23,7 @@ use Rattle.instance.specs.declared.conform.Conformity.the-variants.{Conf
 use Rattle.instance.specs.Fault.{faultAt, recordFits, faultIn, faultUnder, conformity}
 use Rattle.instance.specs.Start.{startOf}
 use Rattle.instance.specs.Value.{property, valueAt, entryAt, environmentUnder, environment}
-use Rattle.instance.specs.Noted.{placeNoted, Noted, environmentNoted, noted, fitting, notesUnder, notesAfter}
+use Rattle.instance.specs.Noted.{placeNoted, RightNotes, environmentNoted, noted, fitting, notesUnder, notesAfter}
 use Rattle.instance.proofs.Environment.{none-at}
 use Rattle.instance.proofs.Noting.{noted-length}
 
@@ -69,7 +69,7 @@ notes-conforming t i notes e = go (ltb 65535 (length i)) e
     go false f = ap (λ (n : ℕ). noted i n notes) (fitting-all i (kindsOf t) (records i 0) f)
 
 -- THE THEOREM: after a walk over an instance that conforms, each property's place is where its record starts
-pub walked-right : (t i notes : List ℕ) → conformity t i ≡ Conforming → length (kindsOf t) ≤ length notes → Noted t i (notesAfter t i notes)
+pub walked-right : (t i notes : List ℕ) → conformity t i ≡ Conforming → length (kindsOf t) ≤ length notes → RightNotes t i (notesAfter t i notes)
 walked-right t i notes e l n h = ap (λ (x : List ℕ). placeNoted x n) (notes-conforming t i notes e) ∙ noted-at i (length (kindsOf t)) notes n h (omega arith)
 
 -- a walk leaves as many notes as there were
@@ -93,7 +93,7 @@ pub noted-found : (t i notes name : List ℕ) (n k : ℕ) → findProperty t nam
 unfolding environmentNoted
 noted-found t i notes name n k e = rw (found-at t name n k e .kind)
 
-pub noted-environment : (t i notes : List ℕ) → Noted t i notes → (n : ℕ) → environmentNoted t i notes n ≡ environment t i n
+pub noted-environment : (t i notes : List ℕ) → RightNotes t i notes → (n : ℕ) → environmentNoted t i notes n ≡ environment t i n
 unfolding environmentNoted environmentUnder
 noted-environment t i notes w n = go (ltb n (length (kindsOf t))) refl
   where

@@ -135,3 +135,15 @@ integers =
 
 abbrev pub starts : List (ℕ × ℕ)
 starts = (0, 0) ∷ (1, 5) ∷ (2, 17) ∷ (3, 45) ∷ (4, 54) ∷ (5, 83) ∷ (6, 95) ∷ (7, 95) ∷ []
+
+-- the notes that a walk leaves, by the instance and the notes before it: all of them, as far as there is room, and those before the first fault
+abbrev pub walks : List ((List ℕ × List ℕ) × List ℕ)
+walks =
+    ((sampleInstance, replicate 8 7), 0 ∷ 5 ∷ 17 ∷ 45 ∷ 54 ∷ 83 ∷ 7 ∷ 7 ∷ [])
+    ∷ ((sampleInstance, replicate 4 7), 0 ∷ 5 ∷ 17 ∷ 45 ∷ [])
+    ∷ ((sampleInstance ++ write 0 (7 ∷ []), replicate 6 7), 0 ∷ 5 ∷ 17 ∷ 45 ∷ 54 ∷ 83 ∷ [])
+    ∷ ((sampleInstance ++ (0 ∷ []), replicate 6 7), 0 ∷ 5 ∷ 17 ∷ 45 ∷ 54 ∷ 83 ∷ [])
+    ∷ ((take 19 sampleInstance, replicate 6 7), 0 ∷ 5 ∷ 7 ∷ 7 ∷ 7 ∷ 7 ∷ [])
+    ∷ (([], replicate 2 7), 7 ∷ 7 ∷ [])
+    ∷ ((sampleInstance ++ write 0x0300 (replicate 65437 0), replicate 2 7), 7 ∷ 7 ∷ [])
+    ∷ []

@@ -18,8 +18,8 @@ abbrev pub placeNoted : (notes : List ℕ) (number : ℕ) → ℕ
 placeNoted notes n = getD notes n 0
 
 -- the notes are right: each property's place is where its record starts
-abbrev pub Noted : (table instance notes : List ℕ) → Type 0
-Noted t i notes = (n : ℕ) → n < length (kindsOf t) → placeNoted notes n ≡ startOf i n
+abbrev pub RightNotes : (table instance notes : List ℕ) → Type 0
+RightNotes t i notes = (n : ℕ) → n < length (kindsOf t) → placeNoted notes n ≡ startOf i n
 
 -- the environment by the notes, whatever is noted
 unfoldable pub environmentNoted : (table instance notes : List ℕ) → (number : ℕ) → Entry

@@ -13,7 +13,7 @@ use Rattle.table.specs.declared.lookup.Found.the-variants as found
 use Rattle.syntax.specs.declared.path.Path as path
 use Rattle.instance.specs.Start.{startOf}
 use Rattle.instance.specs.Value.{Entry, absent, property, environment, valueAt}
-use Rattle.instance.specs.Noted.{placeNoted, Noted, environmentNoted}
+use Rattle.instance.specs.Noted.{placeNoted, RightNotes, environmentNoted}
 use Rattle.instance.proofs.Environment.{entry-found}
 use Rattle.instance.proofs.NotedPlaces.{noted-found, noted-environment}
 use Rattle.operand.specs.Named.{spanned, named}
@@ -68,7 +68,7 @@ unfolding noted-placed
 entry-there q t i notes p n k e = noted-placed q t i notes .entry p n k e
 
 -- THE LAW: right notes give the instance's environment
-pub right-notes : (q t i notes : List ℕ) → Noted t i notes → entryNoted q t i notes ≡ entryNamed q t i
+pub right-notes : (q t i notes : List ℕ) → RightNotes t i notes → entryNoted q t i notes ≡ entryNamed q t i
 unfolding entryNoted entryNamed
 right-notes q t i notes w = fun-ext (λ p. go (named q t p))
   where

@@ -1,5 +1,5 @@
-use Rattle.datetime.proofs.Bounds.{after-sign}
-use Rattle.datetime.proofs.Laws.{passed, sign-within, no-datetime, out-of-time, interval-by-tail, timestamp-by-date}
+use Rattle.datetime.proofs.Bounds.{sign-there, after-sign}
+use Rattle.datetime.proofs.Laws.{passed, no-datetime, out-of-time, interval-by-tail, timestamp-by-date}
 use borrow.Author.Needs.{needs}
 use Rattle.datetime.proofs.read.is_datetime.Statement.{statement}
 use Rattle.datetime.proofs.read.is_datetime.Tie as tie
@@ -20,7 +20,7 @@ returns-2 : tie.Need-returns-2
 returns-2 c = search out-of-time
 
 shared-slice-read-sign : tie.Need-shared-slice-read-sign
-shared-slice-read-sign c = search sign-within
+shared-slice-read-sign c = sign-there _ (passed _ (c .before .before .before .before .before .is-shaped .ensures) (c .before .before .before .before .if1 .left))
 
 decimal-at-requires : tie.Need-decimal-at-requires
 decimal-at-requires c κs = after-sign _ (passed _ (c .before .before .before .before .before .before .is-shaped .ensures) (c .before .before .before .before .before .if1 .left))

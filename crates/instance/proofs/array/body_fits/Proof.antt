@@ -3,49 +3,34 @@ use Rattle.instance.proofs.Laws as law
 use borrow.Author.Needs.{needs}
 use Rattle.instance.proofs.array.body_fits.Statement.{statement}
 use Rattle.instance.proofs.array.body_fits.Tie as tie
-use Rattle.instance.proofs.array.body_fits.Reads as reads
-use Rattle.instance.proofs.array.body_fits.Lts as lts
-use Rattle.instance.proofs.array.array_fits.Reads as array-fits-reads
-use Rattle.instance.proofs.body.is_number.Reads as is-number-reads
-use Rattle.instance.proofs.body.value_fits.Reads as value-fits-reads
 
--- src/array.rt:68:26
 enum-told : tie.Need-enum-told
 enum-told c = search needs
 
--- src/array.rt:69:22
 enum-known-kind : tie.Need-enum-known-kind
 enum-known-kind c = search needs
 
--- src/array.rt:71:16
 is-number-requires : tie.Need-is-number-requires
 is-number-requires c κs = search needs
 
--- src/array.rt:72:17
 returns : tie.Need-returns
 returns c = search law.body-number
 
--- src/array.rt:74:13
 value-fits-requires : tie.Need-value-fits-requires
 value-fits-requires c κs = search needs
 
--- src/array.rt:76:23
 enum-known-kind-2 : tie.Need-enum-known-kind-2
 enum-known-kind-2 c = search needs
 
--- src/array.rt:76:40
 array-fits-requires : tie.Need-array-fits-requires
 array-fits-requires c κs = search needs
 
--- src/array.rt:64:1
 returns-2 : tie.Need-returns-2
 returns-2 c = search needs
 
--- src/array.rt:64:1
 returns-3 : tie.Need-returns-3
 returns-3 c = c .value-fits .ensures ∙ rw (c .before .before .before .before .kind .given .1)
 
--- src/array.rt:64:1
 returns-4 : tie.Need-returns-4
 returns-4 c = c .array-fits .ensures ∙ rw (c .before .before .kind2 .given .1)
 

@@ -1,15 +1,10 @@
-use borrow.Author.Needs.{needs}
 use borrow.Author.Tests.{eq-eqb, ne-eqb}
 use Rattle.record.proofs.read.short_of.Statement.{statement}
 use Rattle.record.proofs.read.short_of.Tie as tie
-use Rattle.record.proofs.read.short_of.Reads as reads
-use Rattle.record.proofs.read.short_of.Lts as lts
 
--- src/read.rt:31:9
 returns : tie.Need-returns
 returns c = rw (eq-eqb _ _ (c .if1 .taken))
 
--- src/read.rt:27:1
 returns-2 : tie.Need-returns-2
 returns-2 c = rw (ne-eqb _ _ (c .if1 .left))
 
