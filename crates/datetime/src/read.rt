@@ -1,7 +1,5 @@
 // What a datetime's text says, and whether it says anything.
 use crate::Datetime;
-use crate::fields::Date;
-use crate::fields::Time;
 use crate::fields::is_date;
 use crate::fields::is_time;
 use crate::moment::add_time;
@@ -12,7 +10,7 @@ use crate::text::is_shaped;
 use crate::text::time_in;
 use base::decimal::decimal_at;
 ghost use mathlib.Core.Path.{_≡_};
-ghost use mathlib.Core.Bool.{true, _||_};
+ghost use mathlib.Core.Bool.{_||_};
 ghost use Rattle.datetime.specs.Datetime.{isSign, isTimestamp, isInterval, datetimeOf};
 
 fn is_sign(sign: u8) -> bool
