@@ -22,12 +22,16 @@ use Rattle.datetime.specs.Fields.{isDate, isTime}
 use Rattle.datetime.specs.declared.fields.Date.{Date}
 use Rattle.datetime.specs.declared.fields.Time.{Time}
 
+-- what the number of a field is read from: its bytes are there, few, and decimal digits
+abbrev Field : List ℕ → (at n : ℕ) → Type 0
+Field s at n = (n ≤ length s - at) × (n ≤ 15) × (allDigits 10 s at n ≡ true)
+
 -- a shaped text has 25 bytes, so that no byte past its end is read, and digits that write numbers below powers of ten
 pub record Shaped (s : List ℕ) : Type 0 where
-  pub long : length s ≡ 25
-  pub before-point : (at n : ℕ) → at + n ≤ 14 → allDigits 10 s at n ≡ true
-  pub after-point : allDigits 10 s 15 6 ≡ true
-  pub after-sign : allDigits 10 s 22 3 ≡ true
+  pub sign : 21 < length s
+  pub before-point : (at n : ℕ) → at + n ≤ 14 → Field s at n
+  pub after-point : Field s 15 6
+  pub after-sign : Field s 22 3
   pub year : dateIn s .year < 10000
   pub days : intervalDays s < 100000000
   pub microsecond : timeIn s .microsecond < 1000000
@@ -40,37 +44,18 @@ shape-of s h =
     let q = and-both (eqb (byteAt s 14) 46) _ (p .1) in
     let d = and-both (allDigits 10 s 0 14) _ (q .1) in
     let e = and-both (allDigits 10 s 15 6) _ (d .1) in
-    let f : (at n : ℕ) → at + n ≤ 14 → allDigits 10 s at n ≡ true = λ at n l. digits-inside 10 s 0 14 at n (omega arith) (omega arith) (d .0) in
+    let l : length s ≡ 25 = eqb-true (length s) 25 (p .0) in
+    let f : (at n : ℕ) → at + n ≤ 14 → allDigits 10 s at n ≡ true = λ at n k. digits-inside 10 s 0 14 at n (omega arith) (omega arith) (d .0) in
     record {
-      long = eqb-true (length s) 25 (p .0);
-      before-point = f;
-      after-point = e .0;
-      after-sign = e .1;
+      sign = omega arith;
+      before-point = λ at n k. (omega arith, omega arith, f at n k);
+      after-point = (omega arith, omega arith, e .0);
+      after-sign = (omega arith, omega arith, e .1);
       year = value-below 10 s 0 4 (f 0 4 (omega arith));
       days = value-below 10 s 0 8 (f 0 8 (omega arith));
       microsecond = value-below 10 s 15 6 (e .0);
       minutes = value-below 10 s 22 3 (e .1);
     }
-
--- what a field is read from: its bytes are there, few, and decimal digits
-module _ (s : List ℕ) (h : shaped s ≡ true) where
-  abbrev Field : (at n : ℕ) → Type 0
-  Field at n = (n ≤ length s - at) × (n ≤ 15) × (allDigits 10 s at n ≡ true)
-
-  told : Shaped s
-  told = shape-of s h
-
-  pub before-point : (at n : ℕ) → at + n ≤ 14 → Field at n
-  before-point at n l = (rw (told .long) (omega arith), omega arith, told .before-point at n l)
-
-  pub after-point : Field 15 6
-  after-point = (rw (told .long) (omega arith), omega arith, told .after-point)
-
-  pub sign-there : 21 < length s
-  sign-there = rw (told .long) (omega arith)
-
-  pub after-sign : Field 22 3
-  after-sign = (rw (told .long) (omega arith), omega arith, told .after-sign)
 
 pub month-le : (leap : Bool) (m : ℕ) → m ≤ 12 → daysInMonth leap m ≤ 31
 month-le true m h = leb→le _ _ (all-at (λ (k : ℕ). leb (daysInMonth true k) 31) 13 tt m (omega arith))

@@ -1,6 +1,6 @@
 -- One law for each exit of the functions that read a datetime, its premises in the order in which the code learns them.
 use mathlib.Core.Path.{_≡_, refl, _∙_, sym, ap}
-use mathlib.Core.Bool.{Bool, true, false, not, _&&_, _||_}
+use mathlib.Core.Bool.{Bool, true, false, not, _&&_, _||_, or-false}
 use mathlib.Core.List.{List}
 use mathlib.Core.Logic.{_⊎_, inl, inr}
 use Prim.Native.Nat.{ℕ, _-_, _≤_, _<_}
@@ -12,7 +12,6 @@ use mir.Val.{toZ, ofZ}
 use mir.Facts.{toZ-ofZ}
 use borrow.Author.Tests.{eq-eqb, ne-eqb, eqb-true, le-leb, lt-leb, not-true, not-false}
 use native.Mathlib.Omega.{arith}
-use Rattle.base.specs.Pick.{pick}
 use Rattle.base.specs.Part.{byteAt}
 use Rattle.base.specs.Digit.{allDigits}
 use Rattle.base.proofs.Says.{apart, and-both}
@@ -21,12 +20,13 @@ use Rattle.datetime.specs.Calendar.{leapYear, daysInMonth}
 use Rattle.datetime.specs.Fields.{isDate, isTime}
 use Rattle.datetime.specs.Text.{shaped, dateIn, intervalDays, timeIn, signIn, minutesIn}
 use Rattle.datetime.specs.Moment.{daysBefore, elapsed, offsetOf, momentAt}
-use Rattle.datetime.specs.Datetime.{isSign, isTimestamp, isInterval, moment, intervalLength, datetimeOf}
+use Rattle.datetime.specs.Datetime.{isSign, isTimestamp, isInterval, datetimeOf}
 use Rattle.datetime.specs.declared.fields.Date.{Date}
 use Rattle.datetime.specs.declared.fields.Time.{Time}
 use Rattle.datetime.specs.declared.Datetime.the-variants.{Timestamp, Interval, Malformed}
 use Rattle.datetime.proofs.Bounds.{Shaped, shape-of}
 use Rattle.datetime.proofs.Moments.{moment-fits}
+use Rattle.datetime.proofs.Accepted.{timestamp-is, interval-is, malformed-is}
 
 -- a test that `if !..` let pass
 pub passed : {q : Bool} (p : Bool) → q ≡ p → not q ≡ false → p ≡ true
@@ -74,10 +74,6 @@ module _ (s : List ℕ) where
         offset-digits h e = rw (eq-eqb _ _ long, eq-eqb _ _ point, ← first, not-false p good, ← second, not-false q h) e
 
 -- whether it is one
-or-false : (b : Bool) → b ≡ (b || false)
-or-false true = refl
-or-false false = refl
-
 module _ {r : Bool} (s : List ℕ) (shape : r ≡ shaped s) where
   pub no-datetime : not r ≡ true → false ≡ (isTimestamp s || isInterval s)
   no-datetime h = rw (← shape, not-true r h)
@@ -91,46 +87,40 @@ module _ {r : Bool} (s : List ℕ) (shape : r ≡ shaped s) where
       interval-by-tail h e = rw (← shape, not-false r good, ← time, ← timed, not-false q in-time, h, e)
 
       pub timestamp-by-date : (signIn s ≡ 58 → ⊥) → {p : Bool} → p ≡ isSign (signIn s) → {d : Date} → d ≡ dateIn s → {b : Bool} → b ≡ isDate d → (p && b) ≡ (isTimestamp s || isInterval s)
-      timestamp-by-date h {p} ep ed {b} eb = rw (← shape, not-false r good, ← time, ← timed, not-false q in-time, ne-eqb _ _ h, ← ep, ← ed, ← eb) (or-false (p && b))
+      timestamp-by-date h {p} ep ed {b} eb = rw (← shape, not-false r good, ← time, ← timed, not-false q in-time, ne-eqb _ _ h, ← ep, ← ed, ← eb) (sym (or-false (p && b)))
 
 -- what it says
 either : (a b : Bool) → (a || b) ≡ true → (a ≡ true) ⊎ (b ≡ true)
 either true b h = inl refl
 either false b h = inr h
 
+neither : (a b : Bool) → (a || b) ≡ false → (a ≡ false) × (b ≡ false)
+neither true b h = absurd (apart (sym h))
+neither false b h = (refl, h)
+
 module _ {r : Bool} (s : List ℕ) (told : r ≡ (isTimestamp s || isInterval s)) where
   pub says-nothing : not r ≡ true → Malformed ≡ datetimeOf s
-  unfolding datetimeOf
-  says-nothing h = go (isTimestamp s) (isInterval s) (sym told ∙ not-true r h)
-    where
-      go : (a b : Bool) → (a || b) ≡ false → Malformed ≡ pick a (Timestamp (moment s)) (pick b (Interval (intervalLength s)) Malformed)
-      go true b e = absurd (apart (sym e))
-      go false true e = absurd (apart (sym e))
-      go false false e = refl
+  says-nothing h = let n = neither (isTimestamp s) (isInterval s) (sym told ∙ not-true r h) in sym (malformed-is s (n .0) (n .1))
 
   module _ (good : not r ≡ false) where
     one-of : (isTimestamp s ≡ true) ⊎ (isInterval s ≡ true)
     one-of = either (isTimestamp s) (isInterval s) (sym told ∙ not-false r good)
 
-    pub known-shaped : shaped s ≡ true
-    known-shaped = go one-of
+    both-ask : (shaped s ≡ true) × (isTime (timeIn s) ≡ true)
+    both-ask = go one-of
       where
-        go : (isTimestamp s ≡ true) ⊎ (isInterval s ≡ true) → shaped s ≡ true
-        go (inl h) = and-both (shaped s) _ h .0
-        go (inr h) = and-both (shaped s) _ h .0
+        go : (isTimestamp s ≡ true) ⊎ (isInterval s ≡ true) → (shaped s ≡ true) × (isTime (timeIn s) ≡ true)
+        go (inl h) = let p = and-both (shaped s) _ h in (p .0, and-both (isTime (timeIn s)) _ (p .1) .0)
+        go (inr h) = let p = and-both (shaped s) _ h in (p .0, and-both (isTime (timeIn s)) _ (p .1) .0)
 
-    known-time : isTime (timeIn s) ≡ true
-    known-time = go one-of
-      where
-        go : (isTimestamp s ≡ true) ⊎ (isInterval s ≡ true) → isTime (timeIn s) ≡ true
-        go (inl h) = and-both (isTime (timeIn s)) _ (and-both (shaped s) _ h .1) .0
-        go (inr h) = and-both (isTime (timeIn s)) _ (and-both (shaped s) _ h .1) .0
+    pub known-shaped : shaped s ≡ true
+    known-shaped = both-ask .0
 
     bounds : Shaped s
     bounds = shape-of s known-shaped
 
-    pub in-time : {t : Time} → t ≡ timeIn s → isTime t ≡ true
-    in-time e = rw e known-time
+    pub time-passes : {t : Time} → t ≡ timeIn s → isTime t ≡ true
+    time-passes e = rw e (both-ask .1)
 
     pub microsecond-below : {t : Time} → t ≡ timeIn s → t .microsecond < 1000000
     microsecond-below e = rw e (bounds .microsecond)
@@ -141,23 +131,21 @@ module _ {r : Bool} (s : List ℕ) (told : r ≡ (isTimestamp s || isInterval s)
     pub minutes-below : {n : ℕ} → n ≡ minutesIn s → n < 1000
     minutes-below e = rw e (bounds .minutes)
 
+    -- the sign tells which it is
+    sign-of : isTimestamp s ≡ true → isSign (signIn s) && isDate (dateIn s) ≡ true
+    sign-of h = and-both (isTime (timeIn s)) _ (and-both (shaped s) _ h .1) .1
+
     module _ (colon : signIn s ≡ 58) where
-      no-timestamp : isTimestamp s ≡ true → ⊥
-      no-timestamp h =
-          let p = and-both (isTime (timeIn s)) _ (and-both (shaped s) _ h .1) in
-          let q = and-both (isSign (signIn s)) _ (p .1) in
-          apart (sym (ap isSign colon) ∙ q .0)
+      interval : isInterval s ≡ true
+      interval = go one-of
+        where
+          go : (isTimestamp s ≡ true) ⊎ (isInterval s ≡ true) → isInterval s ≡ true
+          go (inl h) = absurd (apart (sym (ap isSign colon) ∙ and-both (isSign (signIn s)) _ (sign-of h) .0))
+          go (inr h) = h
 
       pub says-interval : {t : Time} → t ≡ timeIn s → {d : ℕ} → d ≡ intervalDays s → {n : ℕ} → n ≡ elapsed d t → n < 8640000000000000000
           → Interval (toZ w64 n) ≡ datetimeOf s
-      unfolding datetimeOf
-      says-interval et ed {n} en l = rw (toZ-small w64 n (omega arith), en, et, ed) (go (isTimestamp s) refl one-of)
-        where
-          go : (b : Bool) → isTimestamp s ≡ b → (isTimestamp s ≡ true) ⊎ (isInterval s ≡ true)
-              → Interval (intervalLength s) ≡ pick b (Timestamp (moment s)) (pick (isInterval s) (Interval (intervalLength s)) Malformed)
-          go true e h = absurd (no-timestamp e)
-          go false e (inl h) = absurd (no-timestamp h)
-          go false e (inr h) = rw h refl
+      says-interval et ed {n} en l = rw (toZ-small w64 n (omega arith), en, et, ed) (sym (interval-is s interval))
 
     module _ (other : signIn s ≡ 58 → ⊥) where
       timestamp : isTimestamp s ≡ true
@@ -170,12 +158,9 @@ module _ {r : Bool} (s : List ℕ) (told : r ≡ (isTimestamp s || isInterval s)
               absurd (other (eqb-true (signIn s) 58 (and-both (eqb (signIn s) 58) _ (p .1) .0)))
 
       pub dated : {d : Date} → d ≡ dateIn s → (isDate d ≡ true) × (d .year < 10000)
-      dated e =
-          let p = and-both (isTime (timeIn s)) _ (and-both (shaped s) _ timestamp .1) in
-          rw e (and-both (isSign (signIn s)) _ (p .1) .1, bounds .year)
+      dated e = rw e (and-both (isSign (signIn s)) _ (sign-of timestamp) .1, bounds .year)
 
       pub says-timestamp : {t : Time} → t ≡ timeIn s → {d : Date} → d ≡ dateIn s → {m : ℕ} → m ≡ daysBefore d → {n : ℕ} → n ≡ elapsed m t → n < 8640000000000000000
           → {o : ℕ} → o ≡ minutesIn s → {z : ℤ} → z ≡ momentAt n (offsetOf (signIn s) o) → Timestamp (toZ w64 (ofZ w64 z)) ≡ datetimeOf s
-      unfolding datetimeOf
       says-timestamp et ed em {n} en l eo ez =
-          rw (ez, toZ-ofZ (moment-fits n (signIn s) _ (omega arith) (minutes-below eo)), en, em, et, ed, eo, timestamp)
+          rw (ez, toZ-ofZ (moment-fits n (signIn s) _ (omega arith) (minutes-below eo)), en, em, et, ed, eo) (sym (timestamp-is s timestamp))

@@ -272,16 +272,16 @@ module _ (q t i : List ℕ) (accepted : check.check q t ≡ Accepted) where
 
   -- by notes, whatever is noted
   module _ (notes : List ℕ) where
-    walked : (c : Call) → callOf q t ≡ c
+    judged-all : (c : Call) → callOf q t ≡ c
         → walkQuery (truthNoted q t i notes) (stepsNoted q t i notes) initial 0 (query q) ≡ told (truthCall (meantNoted q t i notes) c) (stepsCall (meantNoted q t i notes) c)
     unfolding querySteps
-    walked (refused c p) e = absurd (call-refused c p e)
-    walked (compares l) e = walk-good (truthNoted q t i notes) (stepsNoted q t i notes) q l (call-good q t l e)
+    judged-all (refused c p) e = absurd (call-refused c p e)
+    judged-all (compares l) e = walk-good (truthNoted q t i notes) (stepsNoted q t i notes) q l (call-good q t l e)
 
     pub noted-answers : {x : Told} → x ≡ walkQuery (truthNoted q t i notes) (stepsNoted q t i notes) initial 0 (query q)
         → {a : Answer} → a ≡ answer (x .holds) (x .steps) → a ≡ evaluateNoted q t i notes
     noted-answers ex ea =
-        ea ∙ ap (λ (y : Told). answer (y .holds) (y .steps)) (ex ∙ walked (callOf q t) refl)
+        ea ∙ ap (λ (y : Told). answer (y .holds) (y .steps)) (ex ∙ judged-all (callOf q t) refl)
         ∙ sym (tied-accepted conformity.Conforming (check.check q t) (evaluateNoted q t i notes) (truthCall (meantNoted q t i notes) (callOf q t))
         (stepsCall (meantNoted q t i notes) (callOf q t)) accepted (noted-tied q t i notes))
 

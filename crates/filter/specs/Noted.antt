@@ -17,7 +17,7 @@ use Rattle.filter.specs.declared.refusal.Answer.the-variants.{Refused}
 abbrev pub meantNoted : (query table instance notes : List ℕ) → Comparison → Meant
 meantNoted q t i notes c = meaning q (entryNoted q t i notes) c
 
--- what a call comes to where its comparisons mean this
+-- what a call comes to, by a conformity and by the meaning of its comparisons
 abbrev pub answerCall : Conformity → (Comparison → Meant) → Call → Answer
 answerCall k m (refused c p) = Refused (record { cause = c; place = p })
 answerCall k m (compares l) = answerOf k (queryMeaning m l) (querySteps m l)

@@ -24,7 +24,7 @@ ghost use Rattle.filter.specs.Check as Check;
 ghost use Rattle.filter.specs.Check.{checkComparison, asChecked};
 ghost use Rattle.filter.specs.Answers.{checkQuery};
 
-// A comparison fails in any instance and by any notes or in none, so that one without records will do.
+// A comparison fails in every instance, whatever is noted, or in none; so an instance without records and one note will do.
 fn check_comparison<'a>(q: &'a [u8], t: &'a [u8], c: Comparison) -> Checked
     ensures { λ r. ⌜ r ≡ asChecked (checkComparison (now (q .entry)) (now (t .entry)) c) ⌝ }
 {

@@ -123,7 +123,7 @@ fn answer_of(x: Told) -> Answer
 }
 
 // Of a query that the check accepts, over an instance that is already walked: each property's record is read at the place noted for it, whatever is noted. Whoever has many
-// filters walks an instance once, with `check_instance`, and evaluates each of them here.
+// filters walks an instance once, with `check_instance`, and evaluates each of them here. Of an instance of at most 65,535 bytes the steps can't overflow.
 pub fn evaluate_noted<'a>(
     query: &'a [u8],
     table: &'a [u8],

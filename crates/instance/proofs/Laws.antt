@@ -1,6 +1,6 @@
 -- One law for each way out of the functions of src/.
 use Prim.Native.Nat.{ℕ, zero, suc, _+_, _-_, _≤_, _<_}
-use mathlib.Core.List.{List, _∷_}
+use mathlib.Core.List.{List}
 use mathlib.Core.Bool.{Bool, true, false, not, _||_}
 use mathlib.Core.Path.{_≡_, refl, sym, ap, _∙_}
 use native.Mathlib.Omega.{arith}
@@ -12,7 +12,7 @@ use borrow.Author.Tests.{lt-ltb, le-ltb, eq-eqb, ne-eqb, not-true, not-false}
 use Rattle.base.specs.Pick.{pick}
 use Rattle.base.specs.Part.{part}
 use Rattle.base.proofs.Says.{apart}
-use Rattle.record.specs.Record.{recordAt, follow, records}
+use Rattle.record.specs.Record.{recordAt, records}
 use Rattle.record.specs.Kind.{kindOf}
 use Rattle.record.specs.declared.read.RecordAt.{RecordAt}
 use Rattle.record.specs.declared.read.RecordAt.the-variants.{Whole, Broken, End}
@@ -21,17 +21,15 @@ use Rattle.record.specs.declared.kind.Family.the-variants.{Boolean, Integer, Re
 use Rattle.record.specs.declared.kind.ValueType.{ValueType}
 use Rattle.record.specs.declared.kind.Kind.{Kind}
 use Rattle.record.specs.declared.kind.Kind.the-variants.{Scalar}
-use Rattle.record.proofs.Records.{records-at, records-whole, records-broken, records-end}
+use Rattle.record.proofs.Records.{records-whole, records-broken, records-end}
 use Rattle.datetime.specs.Datetime.{isTimestamp, isInterval, moment, intervalLength, datetimeOf}
 use Rattle.datetime.specs.declared.Datetime.the-variants.{Timestamp, Interval, Malformed}
-use Rattle.table.specs.Properties.{kindsIn}
 use Rattle.instance.specs.declared.conform.InstanceFault.the-variants.{TooLong}
 use Rattle.instance.specs.declared.conform.Conformity.{Conformity}
 use Rattle.instance.specs.declared.conform.Conformity.the-variants.{Conforming, Fault}
-use Rattle.instance.specs.declared.conform.Step.{Step}
 use Rattle.instance.specs.declared.conform.Step.the-variants.{Next, Wrong}
 use Rattle.instance.specs.Body.{isDatetime, datetimeFits, isNumber, familyFits, valueFits}
-use Rattle.instance.specs.Fault.{faultAt, isNull, slotFits, elementsFit, bodyFits, recordFits, furtherFault, faultIn, faultUnder, stepOf, stepAt}
+use Rattle.instance.specs.Fault.{faultAt, isNull, slotFits, elementsFit, bodyFits, recordFits, furtherFault, faultIn, faultUnder, stepAt}
 use Rattle.instance.specs.Start.{nextAt, startOf}
 
 -- a datetime
@@ -144,43 +142,6 @@ module _ (i : List ℕ) (at : ℕ) (w : Conformity) (inv : w ≡ furtherFault (r
   pub further-next : (kind start len next : ℕ) → r ≡ Whole kind start len next → w ≡ furtherFault (records i next)
   unfolding furtherFault
   further-next kind start len next f = inv ∙ rw (records-whole i at kind start len next (sym e ∙ f))
-
--- the fault, by the step at a place
-after : List ℕ → List ℕ → Step → Conformity
-after i ks (Next n) = faultIn i ks (records i n)
-after i ks (Wrong p) = faultAt p
-
-fault-at : (i : List ℕ) (k : ℕ) (ks : List ℕ) (at : ℕ) → faultIn i (k ∷ ks) (records i at) ≡ after i ks (stepAt i at k)
-unfolding faultIn stepAt after
-fault-at i k ks at = rw records-at (go (recordAt i at))
-  where
-    chosen : (b : Bool) (next : ℕ) → pick b (faultIn i ks (records i next)) (faultAt at) ≡ after i ks (pick b (Next next) (Wrong at))
-    chosen true next = refl
-    chosen false next = refl
-
-    go : (r : RecordAt) → faultIn i (k ∷ ks) (follow at r (records i)) ≡ after i ks (stepOf i at k r)
-    go (Whole kind start len next) = chosen (recordFits k kind (part i start len)) next
-    go Broken = refl
-    go End = refl
-
--- the table's properties beside the instance's records
-module _ (t i : List ℕ) (row at : ℕ) (w : Conformity) (inv : w ≡ faultIn i (kindsIn (records t row)) (records i at)) (r : RecordAt) (e : r ≡ recordAt t row) where
-  pub beside-broken : r ≡ Broken → (x : Conformity) → x ≡ furtherFault (records i at) → x ≡ w
-  unfolding faultIn kindsIn
-  beside-broken f x g = g ∙ sym (inv ∙ rw (records-broken t row (sym e ∙ f)))
-
-  pub beside-end : r ≡ End → (x : Conformity) → x ≡ furtherFault (records i at) → x ≡ w
-  unfolding faultIn kindsIn
-  beside-end f x g = g ∙ sym (inv ∙ rw (records-end t row (sym e ∙ f)))
-
-  module _ (kind start len next : ℕ) (f : r ≡ Whole kind start len next) (y : Step) (g : y ≡ stepAt i at kind) where
-    pub beside-wrong : (p : ℕ) → y ≡ Wrong p → (x : Conformity) → x ≡ faultAt p → x ≡ w
-    unfolding kindsIn after
-    beside-wrong p h x z = z ∙ sym (inv ∙ rw (records-whole t row kind start len next (sym e ∙ f)) (fault-at i kind _ at ∙ rw (← g, h)))
-
-    pub beside-next : (n : ℕ) → y ≡ Next n → w ≡ faultIn i (kindsIn (records t next)) (records i n)
-    unfolding kindsIn after
-    beside-next n h = inv ∙ rw (records-whole t row kind start len next (sym e ∙ f)) (fault-at i kind _ at ∙ rw (← g, h))
 
 -- the whole instance
 module _ (ks i : List ℕ) where

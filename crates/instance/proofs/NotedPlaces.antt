@@ -21,9 +21,11 @@ use Rattle.table.proofs.Good.{good-table, counted}
 use Rattle.instance.specs.declared.conform.InstanceFault.the-variants.{TooLong}
 use Rattle.instance.specs.declared.conform.Conformity.the-variants.{Conforming, Fault}
 use Rattle.instance.specs.Fault.{faultAt, recordFits, faultIn, faultUnder, conformity}
+use Rattle.instance.specs.Conforms.{Conforms}
 use Rattle.instance.specs.Start.{startOf}
 use Rattle.instance.specs.Value.{property, valueAt, entryAt, environmentUnder, environment}
 use Rattle.instance.specs.Noted.{placeNoted, RightNotes, environmentNoted, noted, fitting, notesUnder, notesAfter}
+use Rattle.instance.proofs.Decides.{no-place, conforms-no-fault}
 use Rattle.instance.proofs.Environment.{none-at}
 use Rattle.instance.proofs.Noting.{noted-length}
 
@@ -45,9 +47,6 @@ noted-kept i zero notes n h = refl
 noted-kept i (suc k) notes n h = getD-set-other (noted i k notes) k n (startOf i k) 0 (λ e. omega arith) ∙ noted-kept i k notes n (omega arith)
 
 -- ---- an instance that conforms has the record of every property
-not-fault : {p : ℕ} → faultAt p ≡ Conforming → ⊥
-not-fault e = let z : _≡_ {A = ℕ} 0 1 = cc in omega arith
-
 fitting-all : (i ks : List ℕ) (rs : Records) → faultIn i ks rs ≡ Conforming → fitting i ks rs ≡ length ks
 unfolding faultIn fitting
 fitting-all i [] rs e = refl
@@ -55,9 +54,9 @@ fitting-all i (k ∷ ks) (item place kind start len rest) e = go (recordFits k k
   where
     go : (b : Bool) → pick b (faultIn i ks rest) (faultAt place) ≡ Conforming → (faultIn i ks rest ≡ Conforming → fitting i ks rest ≡ length ks) → pick b (suc (fitting i ks rest)) 0 ≡ suc (length ks)
     go true f r = ap suc (r f)
-    go false f r = absurd (not-fault f)
-fitting-all i (k ∷ ks) (broken place) e = absurd (not-fault e)
-fitting-all i (k ∷ ks) ended e = absurd (not-fault e)
+    go false f r = absurd (no-place place f)
+fitting-all i (k ∷ ks) (broken place) e = absurd (no-place place e)
+fitting-all i (k ∷ ks) ended e = absurd (no-place (length i) e)
 
 pub notes-conforming : (t i notes : List ℕ) → conformity t i ≡ Conforming → notesAfter t i notes ≡ noted i (length (kindsOf t)) notes
 unfolding faultUnder notesUnder
@@ -72,14 +71,9 @@ notes-conforming t i notes e = go (ltb 65535 (length i)) e
 pub walked-right : (t i notes : List ℕ) → conformity t i ≡ Conforming → length (kindsOf t) ≤ length notes → RightNotes t i (notesAfter t i notes)
 walked-right t i notes e l n h = ap (λ (x : List ℕ). placeNoted x n) (notes-conforming t i notes e) ∙ noted-at i (length (kindsOf t)) notes n h (omega arith)
 
--- a walk leaves as many notes as there were
-pub walked-length : (t i notes : List ℕ) → length (notesAfter t i notes) ≡ length notes
-unfolding notesUnder
-walked-length t i notes = go (ltb 65535 (length i))
-  where
-    go : (b : Bool) → length (pick b notes (noted i (fitting i (kindsOf t) (records i 0)) notes)) ≡ length notes
-    go true = refl
-    go false = noted-length i (fitting i (kindsOf t) (records i 0)) notes
+-- so in 01's words, by which the record of the property stands there (`Environment` `record-of`)
+pub walked-conforms : (t i notes : List ℕ) → Conforms t i → length (kindsOf t) ≤ length notes → RightNotes t i (notesAfter t i notes)
+walked-conforms t i notes c l = walked-right t i notes (conforms-no-fault t i c) l
 
 -- 128 notes have room for every table
 pub few-kinds : (t : List ℕ) → FreeOfFaults t → length (kindsOf t) ≤ 128

@@ -21,7 +21,7 @@ use Rattle.instance.specs.declared.conform.Step.the-variants.{Next, Wron
 use Rattle.instance.specs.Fault.{faultAt, recordFits, furtherFault, faultIn, stepOf, stepAt}
 use Rattle.instance.specs.Start.{nextOf, nextAt, startOf}
 use Rattle.instance.specs.Noted.{noted, fitting, notesUnder}
-use Rattle.instance.proofs.Laws.{beside-broken, beside-end, beside-wrong, beside-next, start-next}
+use Rattle.instance.proofs.Laws.{start-next}
 
 -- ---- notes
 pub noted-length : (i : List ℕ) (count : ℕ) (notes : List ℕ) → length (noted i count notes) ≡ length notes
@@ -29,23 +29,40 @@ unfolding noted
 noted-length i zero notes = refl
 noted-length i (suc n) notes = length-set (noted i n notes) n (startOf i n) ∙ noted-length i n notes
 
--- ---- a step's record fits and is followed by the next, or there is none more
-after : List ℕ → List ℕ → Step → ℕ
-after i ks (Next n) = suc (fitting i ks (records i n))
-after i ks (Wrong p) = 0
+-- ---- what is told of the record at a place goes by the step there
+module _ {A : Type 0} (next : ℕ → A) (wrong : ℕ → A) where
+  byStep : Step → A
+  byStep (Next n) = next n
+  byStep (Wrong p) = wrong p
 
-fitting-at : (i : List ℕ) (k : ℕ) (ks : List ℕ) (at : ℕ) → fitting i (k ∷ ks) (records i at) ≡ after i ks (stepAt i at k)
-unfolding fitting stepAt after
-fitting-at i k ks at = rw records-at (go (recordAt i at))
-  where
-    chosen : (b : Bool) (next : ℕ) → pick b (suc (fitting i ks (records i next))) 0 ≡ after i ks (pick b (Next next) (Wrong at))
-    chosen true next = refl
-    chosen false next = refl
+  by-step : (i : List ℕ) (k at : ℕ) (f : RecordAt → A)
+      → ((kind start len n : ℕ) → f (Whole kind start len n) ≡ pick (recordFits k kind (part i start len)) (next n) (wrong at))
+      → f Broken ≡ wrong at → f End ≡ wrong (length i) → f (recordAt i at) ≡ byStep (stepAt i at k)
+  unfolding stepAt byStep
+  by-step i k at f whole broken end = go (recordAt i at)
+    where
+      chosen : (b : Bool) (n : ℕ) → pick b (next n) (wrong at) ≡ byStep (pick b (Next n) (Wrong at))
+      chosen true n = refl
+      chosen false n = refl
 
-    go : (r : RecordAt) → fitting i (k ∷ ks) (follow at r (records i)) ≡ after i ks (stepOf i at k r)
-    go (Whole kind start len next) = chosen (recordFits k kind (part i start len)) next
-    go Broken = refl
-    go End = refl
+      go : (r : RecordAt) → f r ≡ byStep (stepOf i at k r)
+      go (Whole kind start len n) = whole kind start len n ∙ chosen (recordFits k kind (part i start len)) n
+      go Broken = broken
+      go End = end
+
+-- the fault, and how many records fit
+module _ (i : List ℕ) (k : ℕ) (ks : List ℕ) (at : ℕ) where
+  fault-at : faultIn i (k ∷ ks) (records i at) ≡ byStep (λ n. faultIn i ks (records i n)) faultAt (stepAt i at k)
+  unfolding faultIn
+  fault-at =
+      rw records-at
+      (by-step (λ n. faultIn i ks (records i n)) faultAt i k at (λ r. faultIn i (k ∷ ks) (follow at r (records i))) (λ kind start len n. refl) refl refl)
+
+  fitting-at : fitting i (k ∷ ks) (records i at) ≡ byStep (λ n. suc (fitting i ks (records i n))) (λ p. 0) (stepAt i at k)
+  unfolding fitting
+  fitting-at =
+      rw records-at
+      (by-step (λ n. suc (fitting i ks (records i n))) (λ p. 0) i k at (λ r. fitting i (k ∷ ks) (follow at r (records i))) (λ kind start len n. refl) refl refl)
 
 step-past : (i : List ℕ) (at k n : ℕ) → stepAt i at k ≡ Next n → n ≡ nextAt i at
 unfolding stepAt
@@ -86,7 +103,8 @@ module _ (t i : List ℕ) (first : ℕ) (old notes : List ℕ) (row at number : 
   module _ {r : RecordAt} (e : r ≡ recordAt t row) where
     module _ (f : r ≡ Broken) where
       pub broken-found : {x : Conformity} → x ≡ furtherFault (records i at) → x ≡ faultIn i (kindsIn (records t first)) (records i 0)
-      broken-found {x} g = beside-broken t i row at _ (w .left) r e f x g
+      unfolding faultIn kindsIn
+      broken-found g = g ∙ sym (w .left ∙ rw (records-broken t row (sym e ∙ f)))
 
       pub broken-noted : notes ≡ noted i (fitting i (kindsIn (records t first)) (records i 0)) old
       unfolding kindsIn fitting
@@ -94,7 +112,8 @@ module _ (t i : List ℕ) (first : ℕ) (old notes : List ℕ) (row at number : 
 
     module _ (f : r ≡ End) where
       pub end-found : {x : Conformity} → x ≡ furtherFault (records i at) → x ≡ faultIn i (kindsIn (records t first)) (records i 0)
-      end-found {x} g = beside-end t i row at _ (w .left) r e f x g
+      unfolding faultIn kindsIn
+      end-found g = g ∙ sym (w .left ∙ rw (records-end t row (sym e ∙ f)))
 
       pub end-noted : notes ≡ noted i (fitting i (kindsIn (records t first)) (records i 0)) old
       unfolding kindsIn fitting
@@ -104,25 +123,32 @@ module _ (t i : List ℕ) (first : ℕ) (old notes : List ℕ) (row at number : 
       pub walking-room : number + 1 ≤ length t
       walking-room = step-room t row e f number (w .few)
 
-      more : fitting i (kindsIn (records t row)) (records i at) ≡ after i (kindsIn (records t next)) (stepAt i at kind)
+      kinds-left : kindsIn (records t row) ≡ kind ∷ kindsIn (records t next)
       unfolding kindsIn
-      more = rw (records-whole t row kind start len next (sym e ∙ f)) (fitting-at i kind _ at)
+      kinds-left = rw (records-whole t row kind start len next (sym e ∙ f))
 
       module _ {y : Step} (g : y ≡ stepAt i at kind) where
+        fault-left : faultIn i (kindsIn (records t first)) (records i 0) ≡ byStep (λ n. faultIn i (kindsIn (records t next)) (records i n)) faultAt y
+        fault-left = w .left ∙ rw (kinds-left, g) (fault-at i kind (kindsIn (records t next)) at)
+
+        count-left : fitting i (kindsIn (records t row)) (records i at) ≡ byStep (λ n. suc (fitting i (kindsIn (records t next)) (records i n))) (λ p. 0) y
+        count-left = rw (kinds-left, g) (fitting-at i kind (kindsIn (records t next)) at)
+
         module _ {p : ℕ} (h : y ≡ Wrong p) where
           pub wrong-found : {x : Conformity} → x ≡ faultAt p → x ≡ faultIn i (kindsIn (records t first)) (records i 0)
-          wrong-found {x} z = beside-wrong t i row at _ (w .left) r e kind start len next f y g p h x z
+          unfolding byStep
+          wrong-found z = z ∙ sym (fault-left ∙ rw h)
 
           pub wrong-noted : notes ≡ noted i (fitting i (kindsIn (records t first)) (records i 0)) old
-          unfolding after
-          wrong-noted = all-noted (more ∙ rw (← g, h))
+          unfolding byStep
+          wrong-noted = all-noted (count-left ∙ rw h)
 
         pub walking-next : {n : ℕ} → y ≡ Next n → {new : List ℕ} → new ≡ set notes number at → Walking t i first old new next n (number + 1)
-        unfolding after noted
+        unfolding byStep noted
         walking-next {n} h {new} z =
             record {
-              left = beside-next t i row at _ (w .left) r e kind start len next f y g n h;
-              count = let m : fitting i (kindsIn (records t row)) (records i at) ≡ suc (fitting i (kindsIn (records t next)) (records i n)) = more ∙ rw (← g, h) in omega (arith, w .count);
+              left = fault-left ∙ rw h;
+              count = let m : fitting i (kindsIn (records t row)) (records i at) ≡ suc (fitting i (kindsIn (records t next)) (records i n)) = count-left ∙ rw h in omega (arith, w .count);
               here = start-next i number at (w .here) n (step-past i at kind n (sym g ∙ h));
               written = z ∙ rw (add-one number, w .written, w .here);
               few = step-counts t row e f number (w .few);

@@ -37,7 +37,7 @@ unfolding named
 named-found q t p n k e =
     by-names t (eqb (p .names) 1) (eqb (p .names) 2 && sameName (className t) (spanned q (p .first))) (spanned q (p .first)) (spanned q (p .second)) n k e
 
--- ---- the environments that come from an instance: each named property is read at a place of its own
+-- ---- the environments that read from an instance: each named property at the place that its number gives
 pub record Placed (q t i : List ℕ) (env : path.Path → Entry) : Type 0 where
   pub place : ℕ → ℕ
   pub unnamed : (p : path.Path) → named q t p ≡ found.Absent → env p ≡ absent

@@ -24,7 +24,7 @@ pub fn number_at(s: &[u8], at: usize) -> usize
 }
 
 // Where fewer bytes are left than a record's head takes.
-fn short_of(left: usize) -> RecordAt
+fn end_or_broken(left: usize) -> RecordAt
     ensures { λ r. ⌜ r ≡ pick (eqb left 0) RecordAt.End RecordAt.Broken ⌝ }
 {
     if left == 0 {
@@ -33,7 +33,7 @@ fn short_of(left: usize) -> RecordAt
     RecordAt::Broken
 }
 
-// The tests are in an order in which a loop over records needs no more than two of them for each: what is left has a head, and the record ends within the slice.
+// The offset is tried against the end first and last: in a loop over records the compiler then knows that one which ends within the slice is followed by an offset within it, and leaves the first test out.
 pub fn record_at(s: &[u8], at: usize) -> RecordAt
     ensures { λ r. ⌜ r ≡ recordAt (now (s .entry)) at ⌝ }
 {
@@ -42,7 +42,7 @@ pub fn record_at(s: &[u8], at: usize) -> RecordAt
     }
     let left = s.len() - at;
     if left < 4 {
-        return short_of(left);
+        return end_or_broken(left);
     }
     let length = number_at(s, at);
     let next = at + 4 + length;

@@ -1,4 +1,4 @@
-use Rattle.datetime.proofs.Bounds.{sign-there, after-sign}
+use Rattle.datetime.proofs.Bounds.{shape-of}
 use Rattle.datetime.proofs.Laws.{passed, no-datetime, out-of-time, interval-by-tail, timestamp-by-date}
 use borrow.Author.Needs.{needs}
 use Rattle.datetime.proofs.read.is_datetime.Statement.{statement}
@@ -20,10 +20,10 @@ returns-2 : tie.Need-returns-2
 returns-2 c = search out-of-time
 
 shared-slice-read-sign : tie.Need-shared-slice-read-sign
-shared-slice-read-sign c = sign-there _ (passed _ (c .before .before .before .before .before .is-shaped .ensures) (c .before .before .before .before .if1 .left))
+shared-slice-read-sign c = shape-of _ (passed _ (c .before .before .before .before .before .is-shaped .ensures) (c .before .before .before .before .if1 .left)) .sign
 
 decimal-at-requires : tie.Need-decimal-at-requires
-decimal-at-requires c κs = after-sign _ (passed _ (c .before .before .before .before .before .before .is-shaped .ensures) (c .before .before .before .before .before .if1 .left))
+decimal-at-requires c κs = shape-of _ (passed _ (c .before .before .before .before .before .before .is-shaped .ensures) (c .before .before .before .before .before .if1 .left)) .after-sign
 
 returns-3 : tie.Need-returns-3
 returns-3 c = search interval-by-tail

@@ -1,5 +1,5 @@
 use native.Mathlib.Omega.{arith}
-use Rattle.datetime.proofs.Bounds.{before-point, sign-there, after-sign}
+use Rattle.datetime.proofs.Bounds.{shape-of}
 use Rattle.datetime.proofs.Laws as law
 use borrow.Author.Needs.{needs}
 use Rattle.datetime.proofs.read.read_datetime.Statement.{statement}
@@ -15,13 +15,13 @@ time-in-requires : tie.Need-time-in-requires
 time-in-requires c κs = law.known-shaped _ (c .before .is-datetime .ensures) (c .if1 .left)
 
 shared-slice-read-sign : tie.Need-shared-slice-read-sign
-shared-slice-read-sign c = sign-there _ (law.known-shaped _ (c .before .before .before .is-datetime .ensures) (c .before .before .if1 .left))
+shared-slice-read-sign c = shape-of _ (law.known-shaped _ (c .before .before .before .is-datetime .ensures) (c .before .before .if1 .left)) .sign
 
 decimal-at-requires : tie.Need-decimal-at-requires
-decimal-at-requires c κs = before-point _ (law.known-shaped _ (c .before .before .before .before .is-datetime .ensures) (c .before .before .before .if1 .left)) 0 8 (omega arith)
+decimal-at-requires c κs = shape-of _ (law.known-shaped _ (c .before .before .before .before .is-datetime .ensures) (c .before .before .before .if1 .left)) .before-point 0 8 (omega arith)
 
 add-time-requires : tie.Need-add-time-requires
-add-time-requires c κs = (search law.days-below, search law.in-time, search law.microsecond-below)
+add-time-requires c κs = (search law.days-below, search law.time-passes, search law.microsecond-below)
 
 cast-t11 : tie.Need-cast-t11
 cast-t11 c = search needs
@@ -36,10 +36,10 @@ days-before-requires : tie.Need-days-before-requires
 days-before-requires c κs = law.dated _ (c .before .before .before .before .before .is-datetime .ensures) (c .before .before .before .before .if1 .left) (c .before .if2 .left) (c .date-in .ensures)
 
 add-time-requires-2 : tie.Need-add-time-requires-2
-add-time-requires-2 c κs = (omega (arith, c .days-before .ensures .1), search law.in-time, search law.microsecond-below)
+add-time-requires-2 c κs = (omega (arith, c .days-before .ensures .1), search law.time-passes, search law.microsecond-below)
 
 decimal-at-requires-2 : tie.Need-decimal-at-requires-2
-decimal-at-requires-2 c κs = after-sign _ (law.known-shaped _ (c .before .before .before .before .before .before .before .is-datetime .ensures) (c .before .before .before .before .before .before .if1 .left))
+decimal-at-requires-2 c κs = shape-of _ (law.known-shaped _ (c .before .before .before .before .before .before .before .is-datetime .ensures) (c .before .before .before .before .before .before .if1 .left)) .after-sign
 
 less-offset-requires : tie.Need-less-offset-requires
 less-offset-requires c κs = (omega (arith, c .before .add-time2 .ensures .1), law.minutes-below _ (c .before .before .before .before .before .before .before .before .is-datetime .ensures) (c .before .before .before .before .before .before .before .if1 .left) (c .decimal-at2 .ensures))

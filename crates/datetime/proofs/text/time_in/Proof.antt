@@ -1,20 +1,20 @@
 use Rattle.datetime.specs.Text.{timeIn}
 use native.Mathlib.Omega.{arith}
-use Rattle.datetime.proofs.Bounds.{before-point, after-point}
+use Rattle.datetime.proofs.Bounds.{shape-of}
 use Rattle.datetime.proofs.text.time_in.Statement.{statement}
 use Rattle.datetime.proofs.text.time_in.Tie as tie
 
 decimal-at-requires : tie.Need-decimal-at-requires
-decimal-at-requires c κs = before-point _ (c .before .pre) 8 2 (omega arith)
+decimal-at-requires c κs = shape-of _ (c .before .pre) .before-point 8 2 (omega arith)
 
 decimal-at-requires-2 : tie.Need-decimal-at-requires-2
-decimal-at-requires-2 c κs = before-point _ (c .before .before .pre) 10 2 (omega arith)
+decimal-at-requires-2 c κs = shape-of _ (c .before .before .pre) .before-point 10 2 (omega arith)
 
 decimal-at-requires-3 : tie.Need-decimal-at-requires-3
-decimal-at-requires-3 c κs = before-point _ (c .before .before .before .pre) 12 2 (omega arith)
+decimal-at-requires-3 c κs = shape-of _ (c .before .before .before .pre) .before-point 12 2 (omega arith)
 
 decimal-at-requires-4 : tie.Need-decimal-at-requires-4
-decimal-at-requires-4 c κs = after-point _ (c .before .before .before .before .pre)
+decimal-at-requires-4 c κs = shape-of _ (c .before .before .before .before .pre) .after-point
 
 returns : tie.Need-returns
 unfolding timeIn

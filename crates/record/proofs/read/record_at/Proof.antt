@@ -12,8 +12,8 @@ returns c = search law.record-past
 sub-left : tie.Need-sub-left
 sub-left c = search needs
 
-short-of-requires : tie.Need-short-of-requires
-short-of-requires c κs = search needs
+end-or-broken-requires : tie.Need-end-or-broken-requires
+end-or-broken-requires c κs = search needs
 
 returns-2 : tie.Need-returns-2
 returns-2 c = search law.record-short
@@ -48,7 +48,7 @@ record-at-spec =
     (tie.spec
     returns
     sub-left
-    short-of-requires
+    end-or-broken-requires
     returns-2
     number-at-requires
     add-next
