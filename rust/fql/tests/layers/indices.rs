@@ -93,8 +93,8 @@ fn text(n: usize) -> (Vec<u8>, String) {
     (text.clone().into_bytes(), format!("'{text}'"))
 }
 
-/// Elements that are all different, with NULL for each third: an index finds its own, and past the end NULL. `B` has the
-/// value that is looked for.
+/// Elements that are all different, with NULL for each third: an index finds its own, and past the end NULL. `B` has
+/// the value that is looked for.
 fn hold_to_element(kind: u16, element: Element, size: Size, index: usize) {
     let of = |n: usize| if n % 3 == 2 { write(NULL, &[]) } else { write(kind, &element(n).0) };
     let (body, literal) = element(index);

@@ -141,7 +141,7 @@ fn every_property_as_null() {
     seen.assert_at_least(&[("NULL", 12 * 12), ("a value", 12 * 12 * 11)]);
 }
 
-/// Instances that don't conform: another record stands for a property, or neither that nor any more.
+/// Instances that don't conform: NULL with a body stands for a property, or the instance ends before it.
 fn at_fault(class: Class, property: usize) -> [Vec<u8>; 2] {
     let mut records = class.records(46);
     records[property] = write(NULL, &[0]);

@@ -35,8 +35,8 @@ fn held(kind: u16, record: &Record) -> &'static str {
 }
 
 /// Where the next comparison's property stands beside this one's.
-fn next(this: usize, next: usize) -> &'static str {
-    match next.cmp(&this) {
+fn next(this: usize, then: usize) -> &'static str {
+    match then.cmp(&this) {
         Ordering::Less => "an earlier property next",
         Ordering::Equal => "the same property next",
         Ordering::Greater => "a later property next",

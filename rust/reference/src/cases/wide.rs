@@ -8,8 +8,8 @@ use crate::kind::{ARRAY, STRING, TYPES};
 use crate::random::Random;
 use crate::record::{check_instance, read, write, Table, LENGTH_OF_INSTANCE};
 
-/// The properties that queries name most often, counted from 0: the first two of a table, the last two of the widest one,
-/// and one between them.
+/// The properties that queries name most often, counted from 0: the first two of a table, the last two of the widest
+/// one, and one between them.
 pub const OFTEN: [usize; 5] = [0, 1, 63, 126, 127];
 
 /// Where an instance is at fault.
