@@ -1,9 +1,8 @@
 -- A digit of base 10 is an ASCII digit, `0` to `9`, and writes its byte less 48.
 use mathlib.Core.Path.{_≡_, refl, sym, _∙_}
-use mathlib.Core.Bool.{Bool, true, false, _&&_}
+use mathlib.Core.Bool.{Bool, true, false}
 use mathlib.Core.List.{List}
 use Prim.Native.Nat.{ℕ, _+_, _-_, _*_, _≤_, _<_}
-use native.Mathlib.Numerals.{add-one}
 use native.Mathlib.Nat.{pow-le-pow-right}
 use native.Mathlib.Omega.{arith}
 use lib.Dec.{ltb}
@@ -44,10 +43,6 @@ is-decimal b e = e ∙ same (within 48 57 b) refl (ltb (digitOf b) 10) refl
     same true f false g = sym (decimal-digit b .from (within-low 48 57 b (sym f), within-high 48 57 b (sym f))) ∙ g
     same false f true g = sym f ∙ inside b (decimal-digit b .to g)
     same false f false g = refl
-
-pub digits-more : {all d : Bool} (base : ℕ) (s : List ℕ) (at i : ℕ) → all ≡ allDigits base s at i → d ≡ ltb (digitOf (byteAt s (at + i))) base → (all && d) ≡ allDigits base s at (i + 1)
-unfolding allDigits
-digits-more base s at i e f = rw (add-one i, ← e, ← f)
 
 module _ (s : List ℕ) (at n i : ℕ) (digits : allDigits 10 s at n ≡ true) (here : i < n) where
   pub decimal-from : 48 ≤ byteAt s (at + i)

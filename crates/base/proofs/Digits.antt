@@ -1,6 +1,6 @@
 -- Laws of digits and of the numbers they write, over the base and the number of digits.
 use mathlib.Core.Path.{_≡_, refl, sym, _∙_, subst}
-use mathlib.Core.Bool.{Bool, true, false}
+use mathlib.Core.Bool.{Bool, true, false, _&&_}
 use mathlib.Core.List.{List}
 use mathlib.Core.Logic.{_⊎_, inl, inr}
 use Prim.Native.Nat.{ℕ, zero, suc, _+_, _-_, _*_, _/_, _^_, _≤_, _<_}
@@ -25,10 +25,13 @@ pub within-high : (low high b : ℕ) → true ≡ within low high b → b ≤ hi
 unfolding within
 within-high low high b h = leb-true b high (and-both (leb low b) (leb b high) (sym h) .1)
 
--- a run of digits, one longer
-pub digits-next : {d : ℕ} (base : ℕ) (s : List ℕ) (at i : ℕ) → allDigits base s at i ≡ true → d ≡ digitOf (byteAt s (at + i)) → d < base → allDigits base s at (i + 1) ≡ true
+-- a run of digits, one byte longer
+pub digits-more : {all d : Bool} (base : ℕ) (s : List ℕ) (at i : ℕ) → all ≡ allDigits base s at i → d ≡ ltb (digitOf (byteAt s (at + i))) base → (all && d) ≡ allDigits base s at (i + 1)
 unfolding allDigits
-digits-next base s at i h e l = rw (add-one i, h, ← e, lt-ltb _ _ l)
+digits-more base s at i e f = rw (add-one i, ← e, ← f)
+
+pub digits-next : {d : ℕ} (base : ℕ) (s : List ℕ) (at i : ℕ) → allDigits base s at i ≡ true → d ≡ digitOf (byteAt s (at + i)) → d < base → allDigits base s at (i + 1) ≡ true
+digits-next base s at i h e l = sym (digits-more base s at i (sym h) (sym (rw (← e) (lt-ltb _ _ l))))
 
 -- each byte of a run of digits is one
 pub digit-in : (base : ℕ) (s : List ℕ) (at n i : ℕ) → allDigits base s at n ≡ true → i < n → ltb (digitOf (byteAt s (at + i))) base ≡ true

@@ -1,7 +1,7 @@
 -- A test that says a fact: true exactly where the fact holds. With its combinators a definition by tests is shown to be one by properties.
 use Prim.Native.Nat.{ℕ, _≤_, _<_}
 use mathlib.Core.Bool.{Bool, true, false, not, _&&_, _||_}
-use mathlib.Core.Path.{_≡_, refl}
+use mathlib.Core.Path.{_≡_, refl, sym}
 use mathlib.Core.Logic.{_⊎_, inl, inr}
 use native.Mathlib.Omega.{arith}
 use lib.Dec.{ltb, leb, eqb}
@@ -54,3 +54,8 @@ and-both false false h = (h, h)
 pub and-false : (a : Bool) → (a && false) ≡ false
 and-false true = refl
 and-false false = refl
+
+-- a disjunction that is false, taken apart
+pub or-neither : (a b : Bool) → (a || b) ≡ false → (a ≡ false) × (b ≡ false)
+or-neither true b h = absurd (apart (sym h))
+or-neither false b h = (refl, h)

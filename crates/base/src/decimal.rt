@@ -7,7 +7,7 @@ ghost use lib.Dec.{ltb};
 ghost use lib.ListN.{length};
 ghost use Rattle.base.specs.Digit.{digitOf, allDigits, valueOf};
 
-pub fn is_decimal(b: u8) -> bool
+fn is_decimal(b: u8) -> bool
     ensures { λ r. ⌜ r ≡ ltb (digitOf b) 10 ⌝ }
 {
     bytes::in_range(b'0', b'9', b)

@@ -14,7 +14,7 @@ use borrow.Author.Tests.{eq-eqb, ne-eqb, eqb-true, le-leb, lt-leb, not-true, not
 use native.Mathlib.Omega.{arith}
 use Rattle.base.specs.Part.{byteAt}
 use Rattle.base.specs.Digit.{allDigits}
-use Rattle.base.proofs.Says.{apart, and-both}
+use Rattle.base.proofs.Says.{apart, and-both, or-neither}
 use Rattle.base.proofs.Signed.{toZ-small}
 use Rattle.datetime.specs.Calendar.{leapYear, daysInMonth}
 use Rattle.datetime.specs.Fields.{isDate, isTime}
@@ -94,13 +94,9 @@ either : (a b : Bool) → (a || b) ≡ true → (a ≡ true) ⊎ (b ≡ true)
 either true b h = inl refl
 either false b h = inr h
 
-neither : (a b : Bool) → (a || b) ≡ false → (a ≡ false) × (b ≡ false)
-neither true b h = absurd (apart (sym h))
-neither false b h = (refl, h)
-
 module _ {r : Bool} (s : List ℕ) (told : r ≡ (isTimestamp s || isInterval s)) where
   pub says-nothing : not r ≡ true → Malformed ≡ datetimeOf s
-  says-nothing h = let n = neither (isTimestamp s) (isInterval s) (sym told ∙ not-true r h) in sym (malformed-is s (n .0) (n .1))
+  says-nothing h = let n = or-neither (isTimestamp s) (isInterval s) (sym told ∙ not-true r h) in sym (malformed-is s (n .0) (n .1))
 
   module _ (good : not r ≡ false) where
     one-of : (isTimestamp s ≡ true) ⊎ (isInterval s ≡ true)

@@ -29,9 +29,9 @@ answered false n = tt
 refused-apart : (r : Refusal) → checked.Accepted ≡ checked.Refused r → ⊥
 refused-apart r e = let z : _≡_ {A = ℕ} 0 1 = cc in omega arith
 
-module _ (q t i : List ℕ) (conforms : conformity t i ≡ Conforming) where
-  accepted-answered : (v : Checked) (a : Answer) (b : Bool) (n : ℕ) → Tied (conformity t i) v a b n → (v ≡ checked.Accepted) ↔ Answered a
-  accepted-answered checked.Accepted a b n e = (λ _. subst Answered (sym (e ∙ ap (λ (k : Conformity). answerIf k b n) conforms)) (answered b n), λ _. refl)
+module _ (k : Conformity) (conforms : k ≡ Conforming) where
+  accepted-answered : (v : Checked) (a : Answer) (b : Bool) (n : ℕ) → Tied k v a b n → (v ≡ checked.Accepted) ↔ Answered a
+  accepted-answered checked.Accepted a b n e = (λ _. subst Answered (sym (e ∙ ap (λ (x : Conformity). answerIf x b n) conforms)) (answered b n), λ _. refl)
   accepted-answered (checked.Refused r) a b n e = (λ f. absurd (refused-apart r (sym f)), λ f. absurd (subst Answered e f))
 
   included-steps : (b : Bool) (m n : ℕ) → (answer b n ≡ Included m) ⊎ (answer b n ≡ Excluded m) → m ≡ n
@@ -44,22 +44,22 @@ module _ (q t i : List ℕ) (conforms : conformity t i ≡ Conforming) where
   either a b m e (inl f) = inl (sym e ∙ f)
   either a b m e (inr f) = inr (sym e ∙ f)
 
-  counted : (v : Checked) (a : Answer) (b : Bool) (n m : ℕ) → Tied (conformity t i) v a b n → (a ≡ Included m) ⊎ (a ≡ Excluded m) → m ≡ n
-  counted checked.Accepted a b n m e f = included-steps b m n (either a (answer b n) m (e ∙ ap (λ (k : Conformity). answerIf k b n) conforms) f)
+  counted : (v : Checked) (a : Answer) (b : Bool) (n m : ℕ) → Tied k v a b n → (a ≡ Included m) ⊎ (a ≡ Excluded m) → m ≡ n
+  counted checked.Accepted a b n m e f = included-steps b m n (either a (answer b n) m (e ∙ ap (λ (x : Conformity). answerIf x b n) conforms) f)
   counted (checked.Refused r) a b n m e (inl f) = let z : _≡_ {A = ℕ} 0 1 = cc in absurd (omega arith)
   counted (checked.Refused r) a b n m e (inr f) = let z : _≡_ {A = ℕ} 0 1 = cc in absurd (omega arith)
 
-pub refused-same : (q t i : List ℕ) (v : Checked) (a : Answer) (b : Bool) (n : ℕ) → Tied (conformity t i) v a b n → (r : Refusal) → v ≡ checked.Refused r → a ≡ Refused r
-refused-same q t i checked.Accepted a b n e r f = absurd (refused-apart r f)
-refused-same q t i (checked.Refused s) a b n e r f = e ∙ cc
+pub refused-same : (k : Conformity) (v : Checked) (a : Answer) (b : Bool) (n : ℕ) → Tied k v a b n → (r : Refusal) → v ≡ checked.Refused r → a ≡ Refused r
+refused-same k checked.Accepted a b n e r f = absurd (refused-apart r f)
+refused-same k (checked.Refused s) a b n e r f = e ∙ cc
 
 -- THE THEOREM
 pub demand3 : (q t i : List ℕ) → Conforms t i → Demand3 q t i
 demand3 q t i c =
-    let k = conforms-no-fault t i c in
+    let e = conforms-no-fault t i c in
     record {
-      answers = accepted-answered q t i k (check q t) (evaluate q t i) (truthCall (meantIn q t i) (callOf q t)) (steps q t i) (tied q t i);
-      counts = λ n e. counted q t i k (check q t) (evaluate q t i) (truthCall (meantIn q t i) (callOf q t)) (steps q t i) n (tied q t i) e;
+      answers = accepted-answered (conformity t i) e (check q t) (evaluate q t i) (truthCall (meantIn q t i) (callOf q t)) (steps q t i) (tied q t i);
+      counts = λ n f. counted (conformity t i) e (check q t) (evaluate q t i) (truthCall (meantIn q t i) (callOf q t)) (steps q t i) n (tied q t i) f;
       within = steps-within q t i;
-      refuses = refused-same q t i (check q t) (evaluate q t i) (truthCall (meantIn q t i) (callOf q t)) (steps q t i) (tied q t i);
+      refuses = refused-same (conformity t i) (check q t) (evaluate q t i) (truthCall (meantIn q t i) (callOf q t)) (steps q t i) (tied q t i);
     }

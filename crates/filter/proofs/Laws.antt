@@ -219,7 +219,7 @@ accepts q t ev e = sym ev ∙ e
 
 module _ (q t i : List ℕ) {v : Checked} (ev : v ≡ check.check q t) where
   pub evaluate-refused : (r : Refusal) → v ≡ Refused r → answers.Refused r ≡ evaluate q t i
-  evaluate-refused r e = sym (refused-same q t i (check.check q t) (evaluate q t i) (truthCall (meantIn q t i) (callOf q t)) _ (tied q t i) r (sym ev ∙ e))
+  evaluate-refused r e = sym (refused-same (conformity t i) (check.check q t) (evaluate q t i) (truthCall (meantIn q t i) (callOf q t)) _ (tied q t i) r (sym ev ∙ e))
 
 -- a call that isn't refused before its comparisons has those of the query
 apart : (c : Rattle.filter.specs.declared.refusal.Cause.Cause) (p : ℕ) (l : Comparisons) → refused c p ≡ compares l → ⊥

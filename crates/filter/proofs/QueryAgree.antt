@@ -63,7 +63,7 @@ module _ (q t : List ℕ) (m : Comparison → Meant) (agree : (c : Comparison) �
   verdict-tied k passes r b n e = ap (λ (x : QueryMeaning). answerOf k x n) e
   verdict-tied k (breaks c p) r b n e = ap (λ (x : QueryMeaning). answerOf k x n) e
 
-  pub call-tied : (k : Conformity) (c : Call) → Tied k (checkCall q t c) (answerCall k m c) (truthCall m c) (stepsCall m c)
+  call-tied : (k : Conformity) (c : Call) → Tied k (checkCall q t c) (answerCall k m c) (truthCall m c) (stepsCall m c)
   unfolding queryMeaning
   call-tied k (refused c p) = refl
   call-tied k (compares l) = verdict-tied k (checkAll q t l) _ (holds (λ c. truthOf (m c)) (tree l)) (querySteps m l) (all-agree l _)

@@ -9,7 +9,6 @@ use lib.ListN.{length}
 use Rattle.base.specs.Part.{part}
 use Rattle.record.specs.Kind.{kindOf}
 use Rattle.record.specs.declared.kind.Family.{Family}
-use Rattle.record.specs.declared.kind.Family.the-variants as family
 use Rattle.record.specs.declared.kind.ValueType.{ValueType}
 use Rattle.record.specs.declared.kind.Kind.{Kind}
 use Rattle.record.specs.declared.kind.Kind.the-variants.{Unknown, Scalar, Array}
@@ -19,13 +18,12 @@ use Rattle.terminal.specs.declared.quantifier.Quantifier.{Quantifier}
 use Rattle.terminal.specs.declared.quantifier.Quantifier.the-variants.{Single, Any, Every}
 use Rattle.syntax.specs.declared.path.Index.{Index}
 use Rattle.syntax.specs.declared.path.Index.the-variants.{Whole, At}
-use Rattle.syntax.specs.declared.path.Path as path
+use Rattle.syntax.specs.declared.path.Path.{Path}
 use Rattle.syntax.specs.declared.operation.Operation.{Operation}
 use Rattle.syntax.specs.declared.left_side.LeftSide.{LeftSide}
 use Rattle.syntax.specs.declared.comparison.Comparison.{Comparison}
 use Rattle.instance.specs.Start.{startOf}
-use Rattle.instance.specs.Value as value
-use Rattle.instance.specs.Value.{ScalarValue, Entry, environment, valueAt}
+use Rattle.instance.specs.Value.{ScalarValue, Entry, valueAt}
 use Rattle.operand.specs.Named.{named}
 use Rattle.operand.specs.Index.{indexOf}
 use Rattle.operand.specs.declared.index.IndexRead.{IndexRead}
@@ -129,7 +127,7 @@ steps-reads (fails c p) = omega arith
 steps-reads (means x) = steps-bounded x
 
 -- in any environment that reads from the instance
-module _ (q t i : List ℕ) (env : path.Path → Entry) (w : Placed q t i env) (c : Comparison) where
+module _ (q t i : List ℕ) (env : Path → Entry) (w : Placed q t i env) (c : Comparison) where
   kind-few : (kind place : ℕ) (k : Kind) → kindOf kind ≡ k → readsOf (meantBy q env c k (valueAt kind i place)) ≤ length i
   unfolding meantBy readsOf
   kind-few kind place Unknown e = omega arith

@@ -2,7 +2,6 @@
 use instance::conform::InstanceFault;
 use operand::cause::Cause as ComparisonCause;
 use syntax::fault::Cause as TextCause;
-use syntax::fault::Fault;
 use table::validate::TableFault;
 ghost use mathlib.Core.Path.{_≡_};
 ghost use Rattle.filter.specs.Refusal.{numberOf};

@@ -28,7 +28,7 @@ use Rattle.instance.specs.declared.conform.InstanceFault.the-variants.{T
 use Rattle.instance.specs.declared.conform.Conformity.{Conformity}
 use Rattle.instance.specs.declared.conform.Conformity.the-variants.{Conforming, Fault}
 use Rattle.instance.specs.declared.conform.Step.the-variants.{Next, Wrong}
-use Rattle.instance.specs.Body.{isDatetime, datetimeFits, isNumber, familyFits, valueFits}
+use Rattle.instance.specs.Body.{isDatetime, datetimeFits, isNumeric, familyFits, valueFits}
 use Rattle.instance.specs.Fault.{faultAt, isNull, slotFits, elementsFit, bodyFits, recordFits, furtherFault, faultIn, faultUnder, stepAt}
 use Rattle.instance.specs.Start.{nextAt, startOf}
 
@@ -42,22 +42,22 @@ datetime-fits s e = e ∙ go (isTimestamp s) (isInterval s) (moment s) (interval
     go false true m n = refl
     go false false m n = refl
 
--- a number by its length
-number-width : (f : Family) (width : ℕ) (s : List ℕ) → isNumber f ≡ true → eqb (length s) width ≡ familyFits f width s
-number-width Boolean width s e = absurd (apart e)
-number-width Integer width s e = refl
-number-width Real width s e = refl
-number-width Text width s e = absurd (apart e)
-number-width Char16 width s e = absurd (apart e)
-number-width Octets width s e = absurd (apart e)
-number-width Datetime width s e = absurd (apart e)
-number-width Reference width s e = absurd (apart e)
+-- a numeric body by its length
+numeric-width : (f : Family) (width : ℕ) (s : List ℕ) → isNumeric f ≡ true → eqb (length s) width ≡ familyFits f width s
+numeric-width Boolean width s e = absurd (apart e)
+numeric-width Integer width s e = refl
+numeric-width Real width s e = refl
+numeric-width Text width s e = absurd (apart e)
+numeric-width Char16 width s e = absurd (apart e)
+numeric-width Octets width s e = absurd (apart e)
+numeric-width Datetime width s e = absurd (apart e)
+numeric-width Reference width s e = absurd (apart e)
 
-number-fits : (t : ValueType) (s : List ℕ) {r : Bool} → r ≡ isNumber (t .family) → r ≡ true → eqb (length s) (t .width) ≡ valueFits t s
-number-fits t s e h = number-width (t .family) (t .width) s (sym e ∙ h)
+numeric-fits : (t : ValueType) (s : List ℕ) {r : Bool} → r ≡ isNumeric (t .family) → r ≡ true → eqb (length s) (t .width) ≡ valueFits t s
+numeric-fits t s e h = numeric-width (t .family) (t .width) s (sym e ∙ h)
 
-pub body-number : (s : List ℕ) {w : Kind} (t : ValueType) → w ≡ Scalar t → {r : Bool} → r ≡ isNumber (t .family) → r ≡ true → eqb (length s) (t .width) ≡ bodyFits w s
-body-number s t e er h = number-fits t s er h ∙ sym (ap (λ (v : Kind). bodyFits v s) e)
+pub body-numeric : (s : List ℕ) {w : Kind} (t : ValueType) → w ≡ Scalar t → {r : Bool} → r ≡ isNumeric (t .family) → r ≡ true → eqb (length s) (t .width) ≡ bodyFits w s
+body-numeric s t e er h = numeric-fits t s er h ∙ sym (ap (λ (v : Kind). bodyFits v s) e)
 
 -- the record of a property or an element, whose body keeps the value's rules or not
 module _ (k kind : ℕ) (s : List ℕ) (rules : Bool) (x : Bool) (e : x ≡ isNull kind s) where
@@ -71,8 +71,8 @@ module _ (k kind : ℕ) (s : List ℕ) (rules : Bool) (x : Bool) (e : x ≡ isNu
   slot-rules h n = rw (← e, h, eq-eqb _ _ n)
 
 module _ (k kind : ℕ) (s : List ℕ) (x : Bool) (e : x ≡ isNull kind s) (h : x ≡ false) (same : kind ≡ k) where
-  pub slot-number : (t : ValueType) {r : Bool} → r ≡ isNumber (t .family) → r ≡ true → eqb (length s) (t .width) ≡ slotFits k kind s (valueFits t s)
-  slot-number t er f = number-fits t s er f ∙ slot-rules k kind s (valueFits t s) x e h same
+  pub slot-numeric : (t : ValueType) {r : Bool} → r ≡ isNumeric (t .family) → r ≡ true → eqb (length s) (t .width) ≡ slotFits k kind s (valueFits t s)
+  slot-numeric t er f = numeric-fits t s er f ∙ slot-rules k kind s (valueFits t s) x e h same
 
   pub slot-value : (t : ValueType) {y : Bool} → y ≡ valueFits t s → y ≡ slotFits k kind s (valueFits t s)
   slot-value t ey = ey ∙ slot-rules k kind s (valueFits t s) x e h same

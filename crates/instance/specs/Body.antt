@@ -68,12 +68,12 @@ abbrev pub valueFits : ValueType → List ℕ → Bool
 valueFits t s = familyFits (t .family) (t .width) s
 
 -- a body of an integer or a real is any bytes of its width
-abbrev pub isNumber : Family → Bool
-isNumber Boolean = false
-isNumber Integer = true
-isNumber Real = true
-isNumber Text = false
-isNumber Char16 = false
-isNumber Octets = false
-isNumber Datetime = false
-isNumber Reference = false
+abbrev pub isNumeric : Family → Bool
+isNumeric Boolean = false
+isNumeric Integer = true
+isNumeric Real = true
+isNumeric Text = false
+isNumeric Char16 = false
+isNumeric Octets = false
+isNumeric Datetime = false
+isNumeric Reference = false

@@ -1,5 +1,5 @@
 // The rules of a record of a property or an element. Numbers are told by their length before `value_fits` is called: they are most of what instances hold.
-use crate::body::is_number;
+use crate::body::is_numeric;
 use crate::body::value_fits;
 use base::bytes::piece;
 use record::kind::Kind;
@@ -26,7 +26,7 @@ fn element_fits(body: &[u8], element: usize, of: ValueType, kind: usize) -> bool
         return false;
     }
     let family = of.family;
-    if is_number(family) {
+    if is_numeric(family) {
         return body.len() == of.width;
     }
     value_fits(body, of)
@@ -68,7 +68,7 @@ fn body_fits(body: &[u8], kind: Kind) -> bool
         Kind::Unknown => false,
         Kind::Scalar(of) => {
             let family = of.family;
-            if is_number(family) {
+            if is_numeric(family) {
                 return body.len() == of.width;
             }
             value_fits(body, of)

@@ -3,7 +3,7 @@ use record::kind::Family;
 use record::kind::ValueType;
 use unicode::text::Utf8;
 ghost use mathlib.Core.Path.{_≡_};
-ghost use Rattle.instance.specs.Body.{booleanFits, textFits, char16Fits, datetimeFits, isNumber, familyFits, valueFits};
+ghost use Rattle.instance.specs.Body.{booleanFits, textFits, char16Fits, datetimeFits, isNumeric, familyFits, valueFits};
 
 fn boolean_fits(s: &[u8]) -> bool
     ensures { λ r. ⌜ r ≡ booleanFits (now (s .entry)) ⌝ }
@@ -57,8 +57,8 @@ pub fn value_fits(s: &[u8], of: ValueType) -> bool
 }
 
 // Whether a body of the family is any bytes of its width.
-pub(crate) fn is_number(family: Family) -> bool
-    ensures { λ r. ⌜ r ≡ isNumber family ⌝ }
+pub(crate) fn is_numeric(family: Family) -> bool
+    ensures { λ r. ⌜ r ≡ isNumeric family ⌝ }
 {
     match family {
         Family::Boolean => false,

@@ -1,22 +1,19 @@
 -- What the grammar derives is read, at every bound on the depth of the calls that is large enough. Assumes nothing.
 use mathlib.Core.Path.{_≡_, refl, ap, sym as inv, subst}
-use mathlib.Core.Bool.{Bool, true, false, _||_, false≢true}
+use mathlib.Core.Bool.{Bool, true, false, _||_}
 use mathlib.Core.List.{List, [], _∷_, _++_, append-assoc}
 use Prim.Native.Nat.{ℕ, zero, suc, _+_, _*_, _≤_}
 use native.Mathlib.Omega.{arith}
 use borrow.Author.Tests.{eqb-true, ne-eqb, lt-ltb, le-ltb}
 use lib.ListN.{length, length-append}
 use lib.Dec.{eqb}
+use Rattle.base.proofs.Says.{or-neither}
 use Rattle.pattern.specs.Regex.{Range, Symbol, Regex, seq}
 use Rattle.pattern.specs.Character.{dot, backslash, openGroup, closeGroup, openSet, closeSet, bar, asterisk, plusSign, questionMark, circumflex, hyphen, special, startsWith}
 use Rattle.pattern.specs.Grammar.{MemberText, plain-member, escaped-member, RangeText, single, pair, MembersText, one-range, more-ranges, SymbolText, any-character, plain-character, escaped-character, plain-set, negated-set, Sign, no-sign, star-sign, plus-sign, optional-sign, Alternatives, Sequence, Item, Derives, one-alternative, more-alternatives, no-item, more-items, symbol-item, group-item}
 use Rattle.pattern.specs.Reading.{Reading, front, escaped, member, range, members, setFrom, symbol, Part, part, repeated, symbolItem, ends, alternatives, sequence, item}
 use Rattle.pattern.proofs.Sets.{Leaves, left-less, range-leaves}
 use Rattle.pattern.proofs.Leaves.{item-leaves}
-
-or-false : (a b : Bool) → (a || b) ≡ false → (a ≡ false) × (b ≡ false)
-or-false true b e = absurd (false≢true (inv e))
-or-false false b e = (refl, e)
 
 -- ---- sets
 
@@ -72,15 +69,15 @@ plain : (c : ℕ) → special c ≡ false
     × (eqb c asterisk ≡ false) × (eqb c plusSign ≡ false) × (eqb c questionMark ≡ false)
 unfolding special
 plain c e =
-    let q = or-false _ (eqb c questionMark) e in
-    let p = or-false _ (eqb c plusSign) (q .0) in
-    let a = or-false _ (eqb c asterisk) (p .0) in
-    let b = or-false _ (eqb c bar) (a .0) in
-    let x = or-false _ (eqb c closeSet) (b .0) in
-    let o = or-false _ (eqb c openSet) (x .0) in
-    let g = or-false _ (eqb c closeGroup) (o .0) in
-    let h = or-false _ (eqb c openGroup) (g .0) in
-    let k = or-false _ (eqb c backslash) (h .0) in
+    let q = or-neither _ (eqb c questionMark) e in
+    let p = or-neither _ (eqb c plusSign) (q .0) in
+    let a = or-neither _ (eqb c asterisk) (p .0) in
+    let b = or-neither _ (eqb c bar) (a .0) in
+    let x = or-neither _ (eqb c closeSet) (b .0) in
+    let o = or-neither _ (eqb c openSet) (x .0) in
+    let g = or-neither _ (eqb c closeGroup) (o .0) in
+    let h = or-neither _ (eqb c openGroup) (g .0) in
+    let k = or-neither _ (eqb c backslash) (h .0) in
     (k .0, k .1, h .1, g .1, o .1, b .1, a .1, p .1, q .1)
 
 symbol-complete : {u : List ℕ} {p : Symbol} → SymbolText u p → (t : List ℕ) → symbol (u ++ t) ≡ front p t

@@ -7,6 +7,7 @@ use borrow.Author.Tests.{eqb-true, eqb-false, ltb-true, ltb-false}
 use lib.ListN.{length, drop}
 use lib.Dec.{ltb, eqb}
 use Rattle.base.specs.Pick.{pick}
+use Rattle.base.proofs.Says.{or-neither}
 use Rattle.pattern.specs.Regex.{Range, Symbol, any, one, Regex, sym, opt, plus, star}
 use Rattle.pattern.specs.Character.{dot, backslash, openGroup, closeGroup, openSet, closeSet, bar, asterisk, plusSign, questionMark, circumflex, hyphen, special, startsWith}
 use Rattle.pattern.specs.Grammar.{MemberText, plain-member, escaped-member, RangeText, single, pair, MembersText, one-range, more-ranges, SymbolText, any-character, plain-character, escaped-character, plain-set, negated-set, Sign, no-sign, star-sign, plus-sign, optional-sign, Kind, Alternatives, Sequence, Item, Derives, one-alternative, more-alternatives, no-item, more-items, symbol-item, group-item}
@@ -16,10 +17,6 @@ use Rattle.pattern.specs.Reading.{Reading, malformed, front, escaped, me
 pub data Reads {A : Type 0} (T : List ℕ → A → Type 0) (s : List ℕ) : Reading A → Type 0 where
   reads-none : Reads T s malformed
   reads : {a : A} {t : List ℕ} (u : List ℕ) → s ≡ u ++ t → T u a → Reads T s (front a t)
-
-or-false : (a b : Bool) → (a || b) ≡ false → (a ≡ false) × (b ≡ false)
-or-false true b e = absurd (false≢true (inv e))
-or-false false b e = (refl, e)
 
 pub starts-true : (x : ℕ) (s : List ℕ) → startsWith x s ≡ true → s ≡ x ∷ drop 1 s
 unfolding startsWith
@@ -46,7 +43,7 @@ member-sound (c ∷ s) = by-escape s (eqb c backslash) refl
     by-plain : (s : List ℕ) (b : Bool) → (eqb c hyphen || eqb c closeSet) ≡ b → (c ≡ backslash → ⊥) → Reads MemberText (c ∷ s) (pick b malformed (front c s))
     by-plain s true e n = reads-none
     by-plain s false e n =
-        let z = or-false (eqb c hyphen) (eqb c closeSet) e in
+        let z = or-neither (eqb c hyphen) (eqb c closeSet) e in
         reads (c ∷ []) refl (plain-member (eqb-false c closeSet (z .1)) n (eqb-false c hyphen (z .0)))
 
     by-escape : (s : List ℕ) (b : Bool) → eqb c backslash ≡ b → Reads MemberText (c ∷ s) (pick b (escaped s) (pick (eqb c hyphen || eqb c closeSet) malformed (front c s)))

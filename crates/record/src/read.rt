@@ -33,7 +33,7 @@ fn end_or_broken(left: usize) -> RecordAt
     RecordAt::Broken
 }
 
-// The offset is tried against the end first and last: in a loop over records the compiler then knows that one which ends within the slice is followed by an offset within it, and leaves the first test out.
+// Both tests against the end have the same form: in a loop over records the compiler then sees that the offset after a whole record is within the slice, and leaves the first test out.
 pub fn record_at(s: &[u8], at: usize) -> RecordAt
     ensures { λ r. ⌜ r ≡ recordAt (now (s .entry)) at ⌝ }
 {

@@ -6,11 +6,11 @@ use mathlib.Core.Bool.{Bool, true, false, not, _&&_, _||_, true≢false, false�
 use native.Mathlib.Omega.{arith}
 use lib.ListN.{length}
 use lib.Dec.{ltb, eqb}
-use borrow.Author.Tests.{ltb-true, ltb-false, le-ltb, eqb-true, eqb-false, eq-eqb, ne-eqb}
+use borrow.Author.Tests.{ltb-true, ltb-false, le-ltb, eqb-true, eqb-false, eq-eqb, ne-eqb, not-true}
 use Rattle.base.specs.Pick.{pick}
 use Rattle.base.specs.Part.{byteAt}
 use Rattle.base.specs.Digit.{valueOf}
-use Rattle.base.proofs.Says.{and-both}
+use Rattle.base.proofs.Says.{and-both, or-neither}
 use Rattle.scan.specs.Class.{run, inClass}
 use Rattle.scan.specs.declared.Class.the-variants.{Digit}
 use Rattle.scan.proofs.Runs.{run-from, run-holds, run-stops, run-longest, digit-no-zero}
@@ -223,14 +223,9 @@ module _ (q : List ℕ) where
   unfolding charAt rawAt
   is-raw {at} {e} f =
       let p = and-both (unicodeChar (scalarAt q at)) (not (eqb (scalarAt q at) 39 || eqb (scalarAt q at) 92)) (f .belongs) in
-      let r = neither (eqb (scalarAt q at) 39) (eqb (scalarAt q at) 92) (p .1) in
+      let r = or-neither (eqb (scalarAt q at) 39) (eqb (scalarAt q at) 92) (not-true _ (p .1)) in
       record { value = scalarAt q at; stands = rw (differ 39 (omega arith) (r .0), differ 92 (omega arith) (r .1), ne-eqb (sequenceAt q at) 0 (f .sequence), p .0, f .ends) }
     where
-      neither : (t u : Bool) → not (t || u) ≡ true → (t ≡ false) × (u ≡ false)
-      neither true u h = absurd (false≢true h)
-      neither false true h = absurd (false≢true h)
-      neither false false h = (refl, refl)
-
       differ : (k : ℕ) → k < 0x80 → eqb (scalarAt q at) k ≡ false → eqb (byteAt q at) k ≡ false
       differ k h n =
           ne-eqb (byteAt q at) k (λ z. eqb-false (scalarAt q at) k n (low-byte q at (starts-within (f .sequence)) (omega arith) .1 ∙ z))
@@ -240,14 +235,10 @@ module _ (q : List ℕ) where
   is-plain {at} {m} {e} f g =
       let y = terminal (omega arith) f in
       let z = fits-low m e g in
-      let n : eqb (plainEscape (byteAt q m)) 0 ≡ false = not-true' (eqb (plainEscape (byteAt q m)) 0) (sym (plain-member (byteAt q m)) ∙ z .0) in
+      let n : eqb (plainEscape (byteAt q m)) 0 ≡ false = not-true (eqb (plainEscape (byteAt q m)) 0) (sym (plain-member (byteAt q m)) ∙ z .0) in
       let b : eqb (byteAt q m) 117 ≡ false = ne-eqb (byteAt q m) 117 (λ x. eqb-false (plainEscape (byteAt q m)) 0 n (rw x refl)) in
       record { value = plainEscape (byteAt q m); stands = rw (y .0, ← y .1, b, n, z .1) refl }
     where
-      not-true' : (t : Bool) → not t ≡ true → t ≡ false
-      not-true' true h = absurd (false≢true h)
-      not-true' false h = refl
-
       fits-low : (m e : ℕ) → OneOf q (λ (v : ℕ). member escaped v) m e → (member escaped (byteAt q m) ≡ true) × (e ≡ m + 1)
       fits-low m e g =
           let z = fits-byte (low-escape (scalarAt q m) (g .belongs) .1) g refl in

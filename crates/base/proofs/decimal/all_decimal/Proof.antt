@@ -3,7 +3,7 @@ use Prim.Native.Nat.{_-_, _≤_}
 use mathlib.Core.Path.{_≡_, refl}
 use native.Mathlib.Omega.{arith}
 use Rattle.base.specs.Digit.{allDigits}
-use Rattle.base.proofs.DecimalDigits.{digits-more}
+use Rattle.base.proofs.Digits.{digits-more}
 use Rattle.base.proofs.decimal.all_decimal.Statement.{statement}
 use Rattle.base.proofs.decimal.all_decimal.Tie as tie
 

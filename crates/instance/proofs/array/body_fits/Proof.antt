@@ -10,11 +10,11 @@ enum-told c = search needs
 enum-known-kind : tie.Need-enum-known-kind
 enum-known-kind c = search needs
 
-is-number-requires : tie.Need-is-number-requires
-is-number-requires c κs = search needs
+is-numeric-requires : tie.Need-is-numeric-requires
+is-numeric-requires c κs = search needs
 
 returns : tie.Need-returns
-returns c = search law.body-number
+returns c = search law.body-numeric
 
 value-fits-requires : tie.Need-value-fits-requires
 value-fits-requires c κs = search needs
@@ -40,7 +40,7 @@ body-fits-spec =
     (tie.spec
     enum-told
     enum-known-kind
-    is-number-requires
+    is-numeric-requires
     returns
     value-fits-requires
     enum-known-kind-2

@@ -12,11 +12,11 @@ returns c = search law.slot-null
 returns-2 : tie.Need-returns-2
 returns-2 c = search law.slot-other
 
-is-number-requires : tie.Need-is-number-requires
-is-number-requires c κs = search needs
+is-numeric-requires : tie.Need-is-numeric-requires
+is-numeric-requires c κs = search needs
 
 returns-3 : tie.Need-returns-3
-returns-3 c = search law.slot-number
+returns-3 c = search law.slot-numeric
 
 value-fits-requires : tie.Need-value-fits-requires
 value-fits-requires c κs = search needs
@@ -31,7 +31,7 @@ element-fits-spec =
     is-null-requires
     returns
     returns-2
-    is-number-requires
+    is-numeric-requires
     returns-3
     value-fits-requires
     returns-4)
