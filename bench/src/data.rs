@@ -32,8 +32,8 @@ impl Setting {
         Setting::new(122, instances)
     }
 
-    /// `Temp` as the last of 128 integers; the others are above 0 where it isn't, so that a filter that reads one of
-    /// them leaves other marks.
+    /// `Temp` as the last of 128 integers; the others are above 0 where it isn't, so that `Temp > 0`, read from one of
+    /// them, leaves other marks.
     pub fn late(instances: usize) -> Setting {
         const BEFORE: usize = 127;
         let names = (0..BEFORE).map(|n| format!("Further{n}")).chain(["Temp".to_owned()]);

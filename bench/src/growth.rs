@@ -1,5 +1,5 @@
 //! How the time grows with one size at a time, the others fixed: linear where the last column stays level. In the last
-//! group an index grows over instances that stay the same: there it stays level where no time goes by the index.
+//! group the index grows and the instances stay the same: there a level column says that the time doesn't depend on it.
 
 use crate::clock::{compare, measure, Call};
 use crate::data::Setting;

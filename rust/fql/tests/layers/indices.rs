@@ -9,7 +9,6 @@ use reference::Answer;
 
 use crate::ask::table;
 use crate::common::agree;
-use crate::seen::Seen;
 use crate::tables::some_value;
 
 /// How many elements an array has, none where it is NULL.
@@ -30,12 +29,8 @@ fn array(kind: u16, size: Size, element: impl Fn(usize) -> Vec<u8>) -> Vec<u8> {
     }
 }
 
-fn sort_of(size: Size, index: usize) -> &'static str {
-    match size {
-        None => "into NULL",
-        Some(size) if index < size => "within",
-        Some(_) => "past the end",
-    }
+fn is_within(size: Size, index: usize) -> bool {
+    size.is_some_and(|size| index < size)
 }
 
 /// Verdict and steps on the engine and on the second evaluator.
@@ -50,7 +45,7 @@ fn hold_to_size(kind: u16, size: Size, index: usize) {
     let (kinds, value) = ([kind, ARRAY | kind, kind, ARRAY | kind], some_value(kind));
     let pair = write(ARRAY | kind, &[value.clone(), write(NULL, &[])].concat());
     let instance = [value.clone(), array(kind, size, |_| value.clone()), value, pair].concat();
-    let (b, within) = (format!("B[{index}]"), sort_of(size, index) == "within");
+    let (b, within) = (format!("B[{index}]"), is_within(size, index));
     for (query, included) in [
         (format!("{b} = NULL"), !within),
         (format!("{b} <> NULL"), within),
@@ -70,14 +65,11 @@ fn hold_to_size(kind: u16, size: Size, index: usize) {
 
 #[test]
 fn into_arrays_of_every_type_and_size() {
-    let mut seen = Seen::default();
     for (kind, size) in TYPES.into_iter().flat_map(|kind| SIZES.map(|size| (kind, size))) {
         for index in indices(size) {
             hold_to_size(kind, size, index);
-            seen.add(sort_of(size, index));
         }
     }
-    seen.assert_at_least(&[("within", 16 * 7), ("past the end", 16 * 21), ("into NULL", 16 * 5)]);
 }
 
 /// Of the element with this number the body and a literal.
@@ -99,7 +91,7 @@ fn hold_to_element(kind: u16, element: Element, size: Size, index: usize) {
     let of = |n: usize| if n % 3 == 2 { write(NULL, &[]) } else { write(kind, &element(n).0) };
     let (body, literal) = element(index);
     let instance = [array(kind, size, of), write(ARRAY | kind, &write(kind, &body))].concat();
-    let found = sort_of(size, index) == "within" && index % 3 != 2;
+    let found = is_within(size, index) && index % 3 != 2;
     for (query, included) in [
         (format!("A[{index}] = {literal}"), found),
         (format!("A[{index}] = B[0]"), found),
@@ -113,12 +105,9 @@ fn hold_to_element(kind: u16, element: Element, size: Size, index: usize) {
 
 #[test]
 fn at_every_element() {
-    let mut seen = Seen::default();
     for (kind, element) in [(UINT16, number as Element), (STRING, text)] {
         for (size, index) in SIZES.into_iter().flat_map(|size| (0..260).map(move |index| (size, index))) {
             hold_to_element(kind, element, size, index);
-            seen.add(sort_of(size, index));
         }
     }
-    seen.assert_at_least(&[("within", 2 * 514), ("past the end", 2 * 786), ("into NULL", 2 * 260)]);
 }

@@ -1,5 +1,5 @@
 //! Classes of twelve properties that all hold different values of types that may meet: a comparison that reads another
-//! property's record has another answer, and the query names which.
+//! property's record has another answer.
 
 use fql::record::{write, ARRAY, INSTANCE, NULL};
 use fql::types::{CHAR16, DATETIME, OCTETS, REAL32, REAL64, REFERENCE, STRING};
@@ -18,7 +18,7 @@ type Value = (u16, Vec<u8>, String);
 /// For a property by its number the n-th value, of a type that depends on the property alone.
 type Values = fn(property: usize, n: usize) -> Value;
 
-const ROWS: [Values; 6] = [integer, real, text, octets, datetime, key];
+const ROWS: [Values; 6] = [integer, real, text, octets, datetime, reference];
 
 fn integer(property: usize, n: usize) -> Value {
     let (kind, bytes, ..) = INTEGERS[property % 8];
@@ -53,7 +53,7 @@ fn datetime(_: usize, n: usize) -> Value {
     (DATETIME, text.clone().into_bytes(), format!("'{text}'"))
 }
 
-fn key(_: usize, n: usize) -> Value {
+fn reference(_: usize, n: usize) -> Value {
     let text = format!("a/b:C.k={n}{}", "x".repeat(n % 7));
     (REFERENCE, text.clone().into_bytes(), format!("'{text}'"))
 }
@@ -114,7 +114,6 @@ fn pairs() -> impl Iterator<Item = (Class, usize, usize)> {
 /// Each property beside each one's value, beside each property, and before each in a query.
 #[test]
 fn every_two_properties() {
-    let mut seen = Seen::default();
     for (class, i, j) in pairs() {
         let records = class.records(0);
         let ([left, right], [own, other]) = ([i, j].map(|n| class.path(n)), [i, j].map(|n| class.literal(n, n)));
@@ -122,23 +121,18 @@ fn every_two_properties() {
         hold(class, &format!("{left} = {right}"), &records, i == j, 1);
         hold(class, &format!("{left} <> {right}"), &records, i != j, 1);
         hold(class, &format!("{left} = {own} AND {right} = {other}"), &records, true, 2);
-        seen.add(if i == j { "one property" } else { "two properties" });
     }
-    seen.assert_at_least(&[("one property", 12 * 12), ("two properties", 12 * 12 * 11)]);
 }
 
 /// One property is NULL, between others that aren't.
 #[test]
 fn every_property_as_null() {
-    let mut seen = Seen::default();
     for (class, i, j) in pairs() {
         let mut records = class.records(0);
         records[i] = write(NULL, &[]);
         hold(class, &format!("{} = NULL", class.path(j)), &records, i == j, 1);
         hold(class, &format!("{} = {}", class.path(j), class.literal(j, j)), &records, i != j, 1);
-        seen.add(if i == j { "NULL" } else { "a value" });
     }
-    seen.assert_at_least(&[("NULL", 12 * 12), ("a value", 12 * 12 * 11)]);
 }
 
 /// Instances that don't conform: NULL with a body stands for a property, or the instance ends before it.

@@ -60,8 +60,8 @@ fn marks_of(run: &WideRun) -> Vec<u8> {
     marks
 }
 
-/// Whether a watch marks some instances with 1 and some with 0.
-fn watch_has_both(r: &mut Random, run: &WideRun) -> bool {
+/// Holds a watch over the run to the second evaluator; whether it marks some instances with 1 and some with 0.
+fn hold_to_watch(r: &mut Random, run: &WideRun) -> bool {
     let window = 1 + r.below(4);
     let (range, before) = ([window, 1 + r.below(window)].map(|n| n as u64), vec![7; run.instances.len()]);
     let (_, marks) = agree_on_watch(&run.query, &run.table, &bytes_of(run), range[0], range[1], &before);
@@ -73,7 +73,7 @@ fn runs(r: &mut Random) {
     for _ in 0..2_000 {
         let run = run(r);
         add(&run, &marks_of(&run), &mut seen);
-        if r.chance(4) && watch_has_both(r, &run) {
+        if r.chance(4) && hold_to_watch(r, &run) {
             seen.add("watched, with ones and zeros");
         }
     }
