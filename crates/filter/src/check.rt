@@ -24,12 +24,17 @@ ghost use Rattle.filter.specs.Check as Check;
 ghost use Rattle.filter.specs.Check.{checkComparison, asChecked};
 ghost use Rattle.filter.specs.Answers.{checkQuery};
 
-// A comparison fails in every instance, whatever is noted, or in none; so an instance without records and one note will do.
-fn check_comparison<'a>(q: &'a [u8], t: &'a [u8], c: Comparison) -> Checked
+// A comparison fails in every instance, whatever is noted, or in none: any instance and any notes will do.
+fn check_comparison<'a>(
+    q: &'a [u8],
+    t: &'a [u8],
+    i: &'a [u8],
+    notes: &[usize],
+    c: Comparison,
+) -> Checked
     ensures { λ r. ⌜ r ≡ asChecked (checkComparison (now (q .entry)) (now (t .entry)) c) ⌝ }
 {
-    let notes = [0usize; 1];
-    match judge(q, t, piece(t, 0, 0), &notes, c) {
+    match judge(q, t, i, notes, c) {
         Judged::Fails(cause, place) => Checked::Refused(Refusal {
             cause: Cause::Comparison(cause),
             place,
@@ -39,7 +44,14 @@ fn check_comparison<'a>(q: &'a [u8], t: &'a [u8], c: Comparison) -> Checked
 }
 
 // The comparisons from a token on, of a text that the grammar takes.
-fn check_from<'a>(q: &'a [u8], t: &'a [u8], grouped: bool, first: Token) -> Checked
+fn check_from<'a>(
+    q: &'a [u8],
+    t: &'a [u8],
+    i: &'a [u8],
+    notes: &[usize],
+    grouped: bool,
+    first: Token,
+) -> Checked
     requires { ⌜ verdict (queryFrom 64 (scan (now q)) grouped first) ≡ Verdict.WellFormed ⌝ }
     ensures { λ r. ⌜ r ≡ checkQuery (now (q .entry)) (now (t .entry)) (queryFrom 64 (scan (now (q .entry))) grouped first) ⌝ }
 {
@@ -48,7 +60,7 @@ fn check_from<'a>(q: &'a [u8], t: &'a [u8], grouped: bool, first: Token) -> Chec
     while 0 < left {
         match read_next(q, grouped, token) {
             NextResult::NoNext(_) => return Checked::Accepted,
-            NextResult::HasNext(c, j, next) => match check_comparison(q, t, c) {
+            NextResult::HasNext(c, j, next) => match check_comparison(q, t, i, notes, c) {
                 Checked::Refused(r) => return Checked::Refused(r),
                 Checked::Accepted => {
                     if is_last(j) {
@@ -63,13 +75,15 @@ fn check_from<'a>(q: &'a [u8], t: &'a [u8], grouped: bool, first: Token) -> Chec
     Checked::Accepted
 }
 
+// Over an instance without records and one note, made once for all comparisons.
 fn check_comparisons<'a>(q: &'a [u8], t: &'a [u8]) -> Checked
     requires { ⌜ verdict (query (now q)) ≡ Verdict.WellFormed ⌝ }
     ensures { λ r. ⌜ r ≡ checkQuery (now (q .entry)) (now (t .entry)) (query (now (q .entry))) ⌝ }
 {
     let o = open_query(q);
     let token = o.token;
-    check_from(q, t, o.grouped, token)
+    let notes = [0usize; 1];
+    check_from(q, t, piece(t, 0, 0), &notes, o.grouped, token)
 }
 
 fn check_under<'a>(q: &'a [u8], t: &'a [u8]) -> Checked

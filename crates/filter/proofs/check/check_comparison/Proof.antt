@@ -3,12 +3,6 @@ use borrow.Author.Needs.{needs}
 use Rattle.filter.proofs.check.check_comparison.Statement.{statement}
 use Rattle.filter.proofs.check.check_comparison.Tie as tie
 
-piece-requires : tie.Need-piece-requires
-piece-requires c κs = search needs
-
-slice-aggregate-judge : tie.Need-slice-aggregate-judge
-slice-aggregate-judge c = search needs
-
 judge-requires : tie.Need-judge-requires
 judge-requires c κs = search needs
 
@@ -26,12 +20,4 @@ returns-2 c = search law.comparison-tells
 
 pub check-comparison-spec : {M : Type 1} → statement M
 check-comparison-spec =
-    tie.close
-    (tie.spec
-    piece-requires
-    slice-aggregate-judge
-    judge-requires
-    enum-known-cause
-    enum-told
-    returns
-    returns-2)
+    tie.close (tie.spec judge-requires enum-known-cause enum-told returns returns-2)

@@ -9,10 +9,10 @@ use Rattle.filter.proofs.check.check_from.Statement.{statement}
 use Rattle.filter.proofs.check.check_from.Tie as tie
 
 abbrev Inv-loop : tie.InvT-loop
-Inv-loop q t grouped token₀ left₀ token left = (checkQuery q t (queryFrom left₀ (scan q) grouped token₀) ≡ checkQuery q t (queryFrom left (scan q) grouped token)) × (verdict (queryFrom left (scan q) grouped token) ≡ WellFormed)
+Inv-loop q t i notes grouped token₀ left₀ token left = (checkQuery q t (queryFrom left₀ (scan q) grouped token₀) ≡ checkQuery q t (queryFrom left (scan q) grouped token)) × (verdict (queryFrom left (scan q) grouped token) ≡ WellFormed)
 
 abbrev μ-loop : tie.MeasureT-loop
-μ-loop q t grouped token₀ left₀ token left = left
+μ-loop q t i notes grouped token₀ left₀ token left = left
 
 loop-holds : tie.Need-loop-holds Inv-loop μ-loop
 loop-holds c = search needs
