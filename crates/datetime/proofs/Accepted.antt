@@ -10,10 +10,9 @@ use Rattle.base.proofs.Says.{Says, says-and, says-or, says-eqb, says-leb, and-b
 use Rattle.datetime.specs.Calendar.{leapYear, daysInMonth}
 use Rattle.datetime.specs.Fields.{isDate, isTime}
 use Rattle.datetime.specs.Text.{shaped, timeIn, signIn}
-use Rattle.datetime.specs.Datetime.{isSign, isTimestamp, isInterval, moment, intervalLength, datetimeOf}
+use Rattle.datetime.specs.Exact.{isSign, isTimestamp, isInterval}
 use Rattle.datetime.specs.declared.fields.Date.{Date}
 use Rattle.datetime.specs.declared.fields.Time.{Time}
-use Rattle.datetime.specs.declared.Datetime.the-variants.{Timestamp, Interval, Malformed}
 
 pub says-time : (t : Time) → Says (isTime t) ((t .hour ≤ 23) × ((t .minute ≤ 59) × (t .second ≤ 59)))
 says-time t = says-and _ _ (says-leb (t .hour) 23) (says-and _ _ (says-leb (t .minute) 59) (says-leb (t .second) 59))
@@ -27,22 +26,9 @@ says-date d =
 pub says-sign : (b : ℕ) → Says (isSign b) ((b ≡ 43) ⊎ (b ≡ 45))
 says-sign b = says-or _ _ (says-eqb b 43) (says-eqb b 45)
 
-module _ (s : List ℕ) where
-  pub timestamp-is : isTimestamp s ≡ true → datetimeOf s ≡ Timestamp (moment s)
-  unfolding datetimeOf
-  timestamp-is h = rw h
-
-  pub never-both : isInterval s ≡ true → isTimestamp s ≡ false
-  never-both h =
-      let p = and-both (shaped s) _ h in
-      let q = and-both (isTime (timeIn s)) _ (p .1) in
-      let r = and-both (eqb (signIn s) 58) _ (q .1) in
-      rw (p .0, q .0, eqb-true (signIn s) 58 (r .0))
-
-  pub interval-is : isInterval s ≡ true → datetimeOf s ≡ Interval (intervalLength s)
-  unfolding datetimeOf
-  interval-is h = rw (never-both h, h)
-
-  pub malformed-is : isTimestamp s ≡ false → isInterval s ≡ false → datetimeOf s ≡ Malformed
-  unfolding datetimeOf
-  malformed-is h k = rw (h, k)
+pub never-both : (s : List ℕ) → isInterval s ≡ true → isTimestamp s ≡ false
+never-both s h =
+    let p = and-both (shaped s) _ h in
+    let q = and-both (isTime (timeIn s)) _ (p .1) in
+    let r = and-both (eqb (signIn s) 58) _ (q .1) in
+    rw (p .0, q .0, eqb-true (signIn s) 58 (r .0))

@@ -28,7 +28,9 @@ Field s at n = (n ≤ length s - at) × (n ≤ 15) × (allDigits 10 s at n ≡ t
 
 -- a shaped text has 25 bytes, so that no byte past its end is read, and digits that write numbers below powers of ten
 pub record Shaped (s : List ℕ) : Type 0 where
+  pub long : length s ≡ 25
   pub sign : 21 < length s
+  pub point : byteAt s 14 ≡ 46
   pub before-point : (at n : ℕ) → at + n ≤ 14 → Field s at n
   pub after-point : Field s 15 6
   pub after-sign : Field s 22 3
@@ -47,7 +49,9 @@ shape-of s h =
     let l : length s ≡ 25 = eqb-true (length s) 25 (p .0) in
     let f : (at n : ℕ) → at + n ≤ 14 → allDigits 10 s at n ≡ true = λ at n k. digits-inside 10 s 0 14 at n (omega arith) (omega arith) (d .0) in
     record {
+      long = l;
       sign = omega arith;
+      point = eqb-true (byteAt s 14) 46 (q .0);
       before-point = λ at n k. (omega arith, omega arith, f at n k);
       after-point = (omega arith, omega arith, e .0);
       after-sign = (omega arith, omega arith, e .1);

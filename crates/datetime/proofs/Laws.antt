@@ -1,5 +1,5 @@
 -- One law for each exit of the functions that read a datetime, its premises in the order in which the code learns them.
-use mathlib.Core.Path.{_≡_, refl, _∙_, sym, ap}
+use mathlib.Core.Path.{_≡_, _∙_, sym}
 use mathlib.Core.Bool.{Bool, true, false, not, _&&_, _||_, or-false}
 use mathlib.Core.List.{List}
 use mathlib.Core.Logic.{_⊎_, inl, inr}
@@ -14,19 +14,20 @@ use borrow.Author.Tests.{eq-eqb, ne-eqb, eqb-true, le-leb, lt-leb, not-true, not
 use native.Mathlib.Omega.{arith}
 use Rattle.base.specs.Part.{byteAt}
 use Rattle.base.specs.Digit.{allDigits}
-use Rattle.base.proofs.Says.{apart, and-both, or-neither}
 use Rattle.base.proofs.Signed.{toZ-small}
 use Rattle.datetime.specs.Calendar.{leapYear, daysInMonth}
 use Rattle.datetime.specs.Fields.{isDate, isTime}
 use Rattle.datetime.specs.Text.{shaped, dateIn, intervalDays, timeIn, signIn, minutesIn}
 use Rattle.datetime.specs.Moment.{daysBefore, elapsed, offsetOf, momentAt}
-use Rattle.datetime.specs.Datetime.{isSign, isTimestamp, isInterval, datetimeOf}
+use Rattle.datetime.specs.Exact.{isSign, isTimestamp, isInterval, microseconds}
+use Rattle.datetime.specs.Datetime.{sorted}
+use Rattle.datetime.specs.declared.Span.{Span}
+use Rattle.datetime.specs.declared.Datetime.the-variants.{Timestamp, Interval}
 use Rattle.datetime.specs.declared.fields.Date.{Date}
 use Rattle.datetime.specs.declared.fields.Time.{Time}
-use Rattle.datetime.specs.declared.Datetime.the-variants.{Timestamp, Interval, Malformed}
 use Rattle.datetime.proofs.Bounds.{Shaped, shape-of}
+use Rattle.datetime.proofs.Sorts.{TimestampText, IntervalText, either-text}
 use Rattle.datetime.proofs.Moments.{moment-fits}
-use Rattle.datetime.proofs.Accepted.{timestamp-is, interval-is, malformed-is}
 
 -- a test that `if !..` let pass
 pub passed : {q : Bool} (p : Bool) → q ≡ p → not q ≡ false → p ≡ true
@@ -90,73 +91,53 @@ module _ {r : Bool} (s : List ℕ) (shape : r ≡ shaped s) where
       timestamp-by-date h {p} ep ed {b} eb = rw (← shape, not-false r good, ← time, ← timed, not-false q in-time, ne-eqb _ _ h, ← ep, ← ed, ← eb) (sym (or-false (p && b)))
 
 -- what it says
-either : (a b : Bool) → (a || b) ≡ true → (a ≡ true) ⊎ (b ≡ true)
-either true b h = inl refl
-either false b h = inr h
+module _ (s : List ℕ) (told : (isTimestamp s || isInterval s) ≡ true) where
+  both-ask : (shaped s ≡ true) × (isTime (timeIn s) ≡ true)
+  both-ask = go (either-text s told)
+    where
+      go : TimestampText s ⊎ IntervalText s → (shaped s ≡ true) × (isTime (timeIn s) ≡ true)
+      go (inl t) = (t .shape, t .time)
+      go (inr t) = (t .shape, t .time)
 
-module _ {r : Bool} (s : List ℕ) (told : r ≡ (isTimestamp s || isInterval s)) where
-  pub says-nothing : not r ≡ true → Malformed ≡ datetimeOf s
-  says-nothing h = let n = or-neither (isTimestamp s) (isInterval s) (sym told ∙ not-true r h) in sym (malformed-is s (n .0) (n .1))
+  pub exact-shaped : shaped s ≡ true
+  exact-shaped = both-ask .0
 
-  module _ (good : not r ≡ false) where
-    one-of : (isTimestamp s ≡ true) ⊎ (isInterval s ≡ true)
-    one-of = either (isTimestamp s) (isInterval s) (sym told ∙ not-false r good)
+  bounds : Shaped s
+  bounds = shape-of s exact-shaped
 
-    both-ask : (shaped s ≡ true) × (isTime (timeIn s) ≡ true)
-    both-ask = go one-of
+  pub time-passes : {t : Time} → t ≡ timeIn s → isTime t ≡ true
+  time-passes e = rw e (both-ask .1)
+
+  pub microsecond-below : {t : Time} → t ≡ timeIn s → t .microsecond < 1000000
+  microsecond-below e = rw e (bounds .microsecond)
+
+  pub days-below : {n : ℕ} → n ≡ intervalDays s → n < 100000000
+  days-below e = rw e (bounds .days)
+
+  pub minutes-below : {n : ℕ} → n ≡ minutesIn s → n < 1000
+  minutes-below e = rw e (bounds .minutes)
+
+  pub says-interval : signIn s ≡ 58 → {t : Time} → t ≡ timeIn s → {d : ℕ} → d ≡ intervalDays s → {n : ℕ} → n ≡ elapsed d t → n < 8640000000000000000
+      → toZ w64 n ≡ microseconds s
+  says-interval h et ed {n} en l = rw (toZ-small w64 n (omega arith), en, et, ed, eq-eqb _ _ h)
+
+  module _ (other : signIn s ≡ 58 → ⊥) where
+    pub dated : {d : Date} → d ≡ dateIn s → (isDate d ≡ true) × (d .year < 10000)
+    dated e = rw e (go (either-text s told), bounds .year)
       where
-        go : (isTimestamp s ≡ true) ⊎ (isInterval s ≡ true) → (shaped s ≡ true) × (isTime (timeIn s) ≡ true)
-        go (inl h) = let p = and-both (shaped s) _ h in (p .0, and-both (isTime (timeIn s)) _ (p .1) .0)
-        go (inr h) = let p = and-both (shaped s) _ h in (p .0, and-both (isTime (timeIn s)) _ (p .1) .0)
+        go : TimestampText s ⊎ IntervalText s → isDate (dateIn s) ≡ true
+        go (inl t) = t .date
+        go (inr t) = absurd (other (eqb-true (signIn s) 58 (t .colon)))
 
-    pub known-shaped : shaped s ≡ true
-    known-shaped = both-ask .0
+    pub says-timestamp : {t : Time} → t ≡ timeIn s → {d : Date} → d ≡ dateIn s → {m : ℕ} → m ≡ daysBefore d → {n : ℕ} → n ≡ elapsed m t → n < 8640000000000000000
+        → {o : ℕ} → o ≡ minutesIn s → {z : ℤ} → z ≡ momentAt n (offsetOf (signIn s) o) → toZ w64 (ofZ w64 z) ≡ microseconds s
+    says-timestamp et ed em {n} en l eo ez =
+        rw (ez, toZ-ofZ (moment-fits n (signIn s) _ (omega arith) (minutes-below eo)), en, em, et, ed, eo, ne-eqb _ _ other)
 
-    bounds : Shaped s
-    bounds = shape-of s known-shaped
+-- which of the two it is
+module _ {sign : ℕ} (x : Span) where
+  pub sorts-interval : sign ≡ 58 → Interval x ≡ sorted (eqb sign 58) x
+  sorts-interval h = rw (eq-eqb _ _ h)
 
-    pub time-passes : {t : Time} → t ≡ timeIn s → isTime t ≡ true
-    time-passes e = rw e (both-ask .1)
-
-    pub microsecond-below : {t : Time} → t ≡ timeIn s → t .microsecond < 1000000
-    microsecond-below e = rw e (bounds .microsecond)
-
-    pub days-below : {n : ℕ} → n ≡ intervalDays s → n < 100000000
-    days-below e = rw e (bounds .days)
-
-    pub minutes-below : {n : ℕ} → n ≡ minutesIn s → n < 1000
-    minutes-below e = rw e (bounds .minutes)
-
-    -- the sign tells which it is
-    sign-of : isTimestamp s ≡ true → isSign (signIn s) && isDate (dateIn s) ≡ true
-    sign-of h = and-both (isTime (timeIn s)) _ (and-both (shaped s) _ h .1) .1
-
-    module _ (colon : signIn s ≡ 58) where
-      interval : isInterval s ≡ true
-      interval = go one-of
-        where
-          go : (isTimestamp s ≡ true) ⊎ (isInterval s ≡ true) → isInterval s ≡ true
-          go (inl h) = absurd (apart (sym (ap isSign colon) ∙ and-both (isSign (signIn s)) _ (sign-of h) .0))
-          go (inr h) = h
-
-      pub says-interval : {t : Time} → t ≡ timeIn s → {d : ℕ} → d ≡ intervalDays s → {n : ℕ} → n ≡ elapsed d t → n < 8640000000000000000
-          → Interval (toZ w64 n) ≡ datetimeOf s
-      says-interval et ed {n} en l = rw (toZ-small w64 n (omega arith), en, et, ed) (sym (interval-is s interval))
-
-    module _ (other : signIn s ≡ 58 → ⊥) where
-      timestamp : isTimestamp s ≡ true
-      timestamp = go one-of
-        where
-          go : (isTimestamp s ≡ true) ⊎ (isInterval s ≡ true) → isTimestamp s ≡ true
-          go (inl h) = h
-          go (inr h) =
-              let p = and-both (isTime (timeIn s)) _ (and-both (shaped s) _ h .1) in
-              absurd (other (eqb-true (signIn s) 58 (and-both (eqb (signIn s) 58) _ (p .1) .0)))
-
-      pub dated : {d : Date} → d ≡ dateIn s → (isDate d ≡ true) × (d .year < 10000)
-      dated e = rw e (and-both (isSign (signIn s)) _ (sign-of timestamp) .1, bounds .year)
-
-      pub says-timestamp : {t : Time} → t ≡ timeIn s → {d : Date} → d ≡ dateIn s → {m : ℕ} → m ≡ daysBefore d → {n : ℕ} → n ≡ elapsed m t → n < 8640000000000000000
-          → {o : ℕ} → o ≡ minutesIn s → {z : ℤ} → z ≡ momentAt n (offsetOf (signIn s) o) → Timestamp (toZ w64 (ofZ w64 z)) ≡ datetimeOf s
-      says-timestamp et ed em {n} en l eo ez =
-          rw (ez, toZ-ofZ (moment-fits n (signIn s) _ (omega arith) (minutes-below eo)), en, em, et, ed, eo) (sym (timestamp-is s timestamp))
+  pub sorts-timestamp : (sign ≡ 58 → ⊥) → Timestamp x ≡ sorted (eqb sign 58) x
+  sorts-timestamp h = rw (ne-eqb _ _ h)

@@ -1,6 +1,6 @@
 -- Moments: they fit 64 bits, their bounds, and the same instant at another offset.
-use mathlib.Core.Path.{_≡_, _∙_, sym, ap}
-use mathlib.Core.Bool.{Bool, true, false, cond}
+use mathlib.Core.Path.{_≡_, refl, _∙_, sym, ap}
+use mathlib.Core.Bool.{Bool, true, false, cond, _||_}
 use mathlib.Core.List.{List}
 use Prim.Native.Nat.{ℕ, zero, suc, _+_, _-_, _*_, _<_, _≤_}
 use native.Mathlib.Omega.{arith}
@@ -11,13 +11,14 @@ use mir.Syntax.{w64}
 use mir.Val.{SFits}
 use borrow.Author.Needs.{sfits-of}
 use Rattle.base.specs.Pick.{pick}
-use Rattle.base.proofs.Says.{and-both}
+use Rattle.base.proofs.Says.{apart, and-both}
 use Rattle.base.proofs.Signed.{difference-fits, less-negative}
 use Rattle.datetime.specs.Calendar.{leapYears}
 use Rattle.datetime.specs.Fields.{isDate, isTime}
 use Rattle.datetime.specs.Text.{shaped, dateIn, timeIn, signIn, minutesIn}
 use Rattle.datetime.specs.Moment.{daysBefore, elapsed, offsetOf, momentAt}
-use Rattle.datetime.specs.Datetime.{isSign, isTimestamp, moment}
+use Rattle.datetime.specs.Exact.{isSign, isTimestamp, isInterval, moment, microseconds}
+use Rattle.datetime.proofs.Sorts.{timestamp-text, interval-text}
 use Rattle.datetime.proofs.Years.{leap-years-grow}
 use Rattle.datetime.proofs.Bounds.{Shaped, shape-of, time-bounds, date-in-year}
 
@@ -80,3 +81,22 @@ moment-bounds s h =
     go : (b : Bool) → local < 315569520000000000 → minutesIn s ≤ 999 → MomentBounds (momentAt local (pick b (negℤ (pos (minutesIn s))) (pos (minutesIn s))))
     go true l m = rw (less-negative local (minutesIn s) 60000000) (sum-bounds local (minutesIn s * 60000000) l (omega arith))
     go false l m = difference-bounds local (minutesIn s * 60000000) l (omega arith)
+
+-- what a text without unknown digits says fits too
+pub microseconds-fit : (s : List ℕ) → (isTimestamp s || isInterval s) ≡ true → SFits w64 (microseconds s)
+microseconds-fit s h = go (isTimestamp s) refl (isInterval s) refl h
+  where
+    go : (p : Bool) → isTimestamp s ≡ p → (q : Bool) → isInterval s ≡ q → (p || q) ≡ true → SFits w64 (microseconds s)
+    go true e q f g =
+        let t = timestamp-text s e in
+        let shape = shape-of s (t .shape) in
+        let l = local-below s shape (t .time) (t .date) in
+        rw (t .colon) (moment-fits (elapsed (daysBefore (dateIn s)) (timeIn s)) (signIn s) (minutesIn s) (omega arith) (shape .minutes))
+    go false e true f g =
+        let t = interval-text s f in
+        let shape = shape-of s (t .shape) in
+        let b = time-bounds (timeIn s) (t .time) in
+        let d = shape .days in
+        let u = shape .microsecond in
+        rw (t .colon) (sfits-of (omega (arith, b .hours, b .minutes, b .seconds)))
+    go false e false f g = absurd (apart g)

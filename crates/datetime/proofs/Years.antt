@@ -1,15 +1,13 @@
 -- Leap years recur after 400 years, 97 of them in each 400, so that the days before a year follow from the first 400 years.
 use mathlib.Core.Path.{_≡_, _∙_, refl, ap, sym}
-use mathlib.Core.Bool.{Bool, true, false}
+use mathlib.Core.Bool.{Bool}
 use mathlib.Core.Logic.{_⊎_, inl, inr}
 use Prim.Native.Nat.{ℕ, zero, suc, _+_, _*_, _/_, _%_, _≤_, _<_}
 use native.Mathlib.Nat.{le-refl, eq-or-lt-of-le, le-of-suc-le-suc, suc-add, add-mul-mod-self-right, div-add-mod'}
 use native.Mathlib.Omega.{arith}
-use lib.Dec.{ltb, ltb→lt}
 use Rattle.base.specs.Pick.{pick}
 use Rattle.base.proofs.Pick.{picked-small}
-use Rattle.base.proofs.Tabulate.{all-at}
-use Rattle.datetime.specs.Calendar.{leapYear, leapYears, daysBeforeYear, daysBeforeMonth}
+use Rattle.datetime.specs.Calendar.{leapYear, leapYears, daysBeforeYear}
 
 pub leap-year-cycle : (y : ℕ) → leapYear (y + 400) ≡ leapYear y
 leap-year-cycle y =
@@ -65,8 +63,3 @@ leap-years-grow y (suc z) h = go (eq-or-lt-of-le h) (λ l. leap-years-grow y z l
     go : (y ≡ suc z) ⊎ (y < suc z) → (y ≤ z → leapYears y ≤ leapYears z) → leapYears y ≤ leapYears z + pick (leapYear z) 1 0
     go (inl e) r = rw e (le-refl (leapYears z + pick (leapYear z) 1 0))
     go (inr l) r = omega (arith, r (le-of-suc-le-suc l))
-
-pub month-lt : (leap : Bool) (m : ℕ) → m < 13 → daysBeforeMonth leap m < 400
-unfolding daysBeforeMonth
-month-lt true m h = ltb→lt _ _ (all-at (λ (k : ℕ). ltb (daysBeforeMonth true k) 400) 13 tt m h)
-month-lt false m h = ltb→lt _ _ (all-at (λ (k : ℕ). ltb (daysBeforeMonth false k) 400) 13 tt m h)

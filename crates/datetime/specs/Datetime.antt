@@ -1,34 +1,28 @@
--- What a datetime's text says. 01 "Datetime (DSP0004)".
+-- What a datetime's text says. 01 "Datetime (DSP0004)"; 02 Q-6: "Such a value spans a lowest and a highest moment". A text without stars spans one moment.
 use Prim.Native.Nat.{ℕ}
 use mathlib.Core.Bool.{Bool, _&&_, _||_}
 use mathlib.Core.List.{List}
-use lib.Dec.{eqb}
-use lib.IntN.{ℤ, pos}
 use Rattle.base.specs.Pick.{pick}
-use Rattle.datetime.specs.Fields.{isDate, isTime}
-use Rattle.datetime.specs.Text.{shaped, dateIn, intervalDays, timeIn, signIn, minutesIn}
-use Rattle.datetime.specs.Moment.{daysBefore, elapsed, offsetOf, momentAt}
+use Rattle.datetime.specs.Text.{hasColon}
+use Rattle.datetime.specs.Exact.{isTimestamp, isInterval, microseconds}
+use Rattle.datetime.specs.Unknown.{known, tailed, mayStart, lowestText, highestText}
+use Rattle.datetime.specs.declared.Span.{Span}
 use Rattle.datetime.specs.declared.Datetime.{Datetime}
 use Rattle.datetime.specs.declared.Datetime.the-variants.{Timestamp, Interval, Malformed}
 
--- `+` or `-`
-abbrev pub isSign : ℕ → Bool
-isSign b = eqb b 43 || eqb b 45
+-- the digits that are known keep their rules: with the lowest ones for the others the text is a timestamp or an interval
+abbrev pub saysTo : (k : ℕ) → List ℕ → Bool
+saysTo k s = tailed k s && (mayStart (hasColon s) k && (isTimestamp (lowestText k s) || isInterval (lowestText k s)))
 
-abbrev pub isTimestamp : List ℕ → Bool
-isTimestamp s = shaped s && (isTime (timeIn s) && (isSign (signIn s) && isDate (dateIn s)))
+abbrev pub saysDatetime : List ℕ → Bool
+saysDatetime s = saysTo (known s) s
 
--- it ends `:000`
-abbrev pub isInterval : List ℕ → Bool
-isInterval s = shaped s && (isTime (timeIn s) && (eqb (signIn s) 58 && eqb (minutesIn s) 0))
+abbrev pub spanTo : (k : ℕ) → List ℕ → Span
+spanTo k s = record { lowest = microseconds (lowestText k s); highest = microseconds (highestText k s) }
 
--- 01's term moment, of a timestamp's text
-abbrev pub moment : List ℕ → ℤ
-moment s = momentAt (elapsed (daysBefore (dateIn s)) (timeIn s)) (offsetOf (signIn s) (minutesIn s))
-
--- the microseconds of an interval's text
-abbrev pub intervalLength : List ℕ → ℤ
-intervalLength s = pos (elapsed (intervalDays s) (timeIn s))
+-- the sign tells which of the two it is
+abbrev pub sorted : (interval : Bool) → Span → Datetime
+sorted interval x = pick interval (Interval x) (Timestamp x)
 
 unfoldable pub datetimeOf : List ℕ → Datetime
-datetimeOf s = pick (isTimestamp s) (Timestamp (moment s)) (pick (isInterval s) (Interval (intervalLength s)) Malformed)
+datetimeOf s = pick (saysDatetime s) (sorted (hasColon s) (spanTo (known s) s)) Malformed

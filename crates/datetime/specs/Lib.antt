@@ -1,7 +1,9 @@
 pub mod Calendar
 pub mod Fields
 pub mod Moment
-pub mod Order
 pub mod Text
+pub mod Exact
+pub mod Unknown
 pub mod Datetime
+pub mod Order
 pub mod Examples

@@ -34,6 +34,10 @@ timeIn s = record { hour = number s 8 2; minute = number s 10 2; second = number
 abbrev pub signIn : List ℕ → ℕ
 signIn s = byteAt s 21
 
+-- `:`, an interval's
+abbrev pub hasColon : List ℕ → Bool
+hasColon s = eqb (signIn s) 58
+
 -- minutes from UTC, or the three digits after an interval's `:`
 abbrev pub minutesIn : List ℕ → ℕ
 minutesIn s = number s 22 3

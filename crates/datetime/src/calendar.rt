@@ -1,7 +1,8 @@
 // The Gregorian calendar from the year 0000 on.
 use crate::days_before::days_before_in_cycle;
 ghost use mathlib.Core.Path.{_≡_};
-ghost use Prim.Native.Nat.{_<_};
+ghost use mathlib.Core.Bool.{false};
+ghost use Prim.Native.Nat.{_≤_, _<_};
 ghost use Rattle.datetime.specs.Calendar.{leapYear, daysBeforeYear, daysBeforeMonth, daysInMonth};
 
 pub fn is_leap_year(y: u64) -> bool
@@ -25,49 +26,57 @@ pub(crate) fn days_before_year(y: u64) -> u64
     y / 400 * 146097 + days_before_in_cycle(k)
 }
 
-const BEFORE_MONTH: [u64; 13] = [0, 0, 31, 59, 90, 120, 151, 181, 212, 243, 273, 304, 334];
-
-const BEFORE_MONTH_OF_LEAP_YEAR: [u64; 13] = [
-    0,
-    0,
-    31,
-    60,
-    91,
-    121,
-    152,
-    182,
-    213,
-    244,
-    274,
-    305,
-    335,
-];
-
-// Months are counted from 1.
-pub(crate) fn days_before_month(leap: bool, m: u64) -> u64
-    requires { ⌜ m < 13 ⌝ }
-    ensures { λ r. ⌜ (r ≡ daysBeforeMonth leap m) × (r < 400) ⌝ }
+fn days_before_month_of_common_year(m: u64) -> u64
+    requires { ⌜ (1 ≤ m) × (m ≤ 12) ⌝ }
+    ensures { λ r. ⌜ (r ≡ daysBeforeMonth false m) × (r < 335) ⌝ }
 {
-    let k = m as usize;
-    if leap {
-        BEFORE_MONTH_OF_LEAP_YEAR[k]
-    } else {
-        BEFORE_MONTH[k]
+    match m {
+        1 => 0,
+        2 => 31,
+        3 => 59,
+        4 => 90,
+        5 => 120,
+        6 => 151,
+        7 => 181,
+        8 => 212,
+        9 => 243,
+        10 => 273,
+        11 => 304,
+        _ => 334,
     }
 }
 
-const DAYS_IN_MONTH: [u64; 13] = [0, 31, 28, 31, 30, 31, 30, 31, 31, 30, 31, 30, 31];
+// Months are counted from 1.
+pub(crate) fn days_before_month(leap: bool, m: u64) -> u64
+    requires { ⌜ (1 ≤ m) × (m ≤ 12) ⌝ }
+    ensures { λ r. ⌜ (r ≡ daysBeforeMonth leap m) × (r < 400) ⌝ }
+{
+    let days = days_before_month_of_common_year(m);
+    if leap & (2 < m) {
+        return days + 1;
+    }
+    days
+}
 
-const DAYS_IN_MONTH_OF_LEAP_YEAR: [u64; 13] = [0, 31, 29, 31, 30, 31, 30, 31, 31, 30, 31, 30, 31];
+fn days_in_february(leap: bool) -> u64
+    ensures { λ r. ⌜ r ≡ daysInMonth leap 2 ⌝ }
+{
+    if leap {
+        return 29;
+    }
+    28
+}
 
 pub(crate) fn days_in_month(leap: bool, m: u64) -> u64
-    requires { ⌜ m < 13 ⌝ }
+    requires { ⌜ (1 ≤ m) × (m ≤ 12) ⌝ }
     ensures { λ r. ⌜ r ≡ daysInMonth leap m ⌝ }
 {
-    let k = m as usize;
-    if leap {
-        DAYS_IN_MONTH_OF_LEAP_YEAR[k]
-    } else {
-        DAYS_IN_MONTH[k]
+    match m {
+        2 => days_in_february(leap),
+        4 => 30,
+        6 => 30,
+        9 => 30,
+        11 => 30,
+        _ => 31,
     }
 }

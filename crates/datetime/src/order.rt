@@ -1,20 +1,36 @@
 // The order of two datetimes.
 use crate::Datetime;
+use crate::Span;
 use base::order::Order;
 ghost use mathlib.Core.Path.{_≡_};
-ghost use Rattle.base.specs.Order.{orderOfWhole};
-ghost use Rattle.datetime.specs.Order.{orderOfDatetimes};
+ghost use lib.Signed.{ltZ};
+ghost use Rattle.datetime.specs.Order.{sameWhole, orderOfSpans, orderOfDatetimes};
 
-fn order_of_microseconds(a: i64, b: i64) -> Order
-    ensures { λ r. ⌜ r ≡ orderOfWhole a b ⌝ }
+fn is_before(m: i64, n: i64) -> bool
+    ensures { λ r. ⌜ r ≡ ltZ m n ⌝ }
 {
-    if a < b {
+    m < n
+}
+
+fn is_same(m: i64, n: i64) -> bool
+    ensures { λ r. ⌜ r ≡ sameWhole m n ⌝ }
+{
+    !is_before(m, n) & !is_before(n, m)
+}
+
+fn order_of_spans(a: Span, b: Span) -> Order
+    ensures { λ r. ⌜ r ≡ orderOfSpans a b ⌝ }
+{
+    if is_before(a.highest, b.lowest) {
         return Order::Before;
     }
-    if b < a {
+    if is_before(b.highest, a.lowest) {
         return Order::After;
     }
-    Order::Same
+    if is_same(a.lowest, b.lowest) & is_same(a.highest, b.highest) {
+        return Order::Same;
+    }
+    Order::Undecided
 }
 
 pub fn order_of_datetimes(a: Datetime, b: Datetime) -> Order
@@ -22,13 +38,13 @@ pub fn order_of_datetimes(a: Datetime, b: Datetime) -> Order
 {
     match a {
         Datetime::Timestamp(x) => match b {
-            Datetime::Timestamp(y) => order_of_microseconds(x, y),
+            Datetime::Timestamp(y) => order_of_spans(x, y),
             Datetime::Interval(_) => Order::Undecided,
             Datetime::Malformed => Order::Undecided,
         },
         Datetime::Interval(x) => match b {
             Datetime::Timestamp(_) => Order::Undecided,
-            Datetime::Interval(y) => order_of_microseconds(x, y),
+            Datetime::Interval(y) => order_of_spans(x, y),
             Datetime::Malformed => Order::Undecided,
         },
         Datetime::Malformed => Order::Undecided,

@@ -1,55 +1,85 @@
-// What a datetime's text says, and whether it says anything.
+// What a datetime's text says, and whether it says anything. A text without unknown digits is read first, and pays nothing for those with.
 use crate::Datetime;
-use crate::fields::is_date;
-use crate::fields::is_time;
-use crate::moment::add_time;
-use crate::moment::days_before;
-use crate::moment::less_offset;
-use crate::text::date_in;
-use crate::text::is_shaped;
-use crate::text::time_in;
-use base::decimal::decimal_at;
+use crate::Span;
+use crate::exact::is_exact;
+use crate::exact::microseconds_in;
+use crate::unknown::fill_highest;
+use crate::unknown::fill_lowest;
+use crate::unknown::is_tailed;
+use crate::unknown::known_in;
+use crate::unknown::may_start;
 ghost use mathlib.Core.Path.{_≡_};
-ghost use mathlib.Core.Bool.{_||_};
-ghost use Rattle.datetime.specs.Datetime.{isSign, isTimestamp, isInterval, datetimeOf};
+ghost use mathlib.Core.Bool.{true};
+ghost use lib.Dec.{eqb};
+ghost use Rattle.datetime.specs.Unknown.{known};
+ghost use Rattle.datetime.specs.Datetime.{saysDatetime, spanTo, sorted, datetimeOf};
 
-fn is_sign(sign: u8) -> bool
-    ensures { λ r. ⌜ r ≡ isSign sign ⌝ }
+fn is_starred(s: &[u8]) -> bool
+    ensures { λ r. ⌜ r ≡ saysDatetime (now (s .entry)) ⌝ }
 {
-    if sign == b'+' {
-        return true;
+    if s.len() != 25 {
+        return false;
     }
-    sign == b'-'
+    let known = known_in(s);
+    if !is_tailed(known, s) {
+        return false;
+    }
+    if !may_start(s[21] == b':', known) {
+        return false;
+    }
+    let mut text = [0u8; 25];
+    fill_lowest(known, s, &mut text);
+    is_exact(&text)
 }
 
-// Whether a text is a timestamp or an interval. No moment is worked out: conformance needs none.
+// No moment is worked out: conformance needs none.
 pub fn is_datetime(s: &[u8]) -> bool
-    ensures { λ r. ⌜ r ≡ (isTimestamp (now (s .entry)) || isInterval (now (s .entry))) ⌝ }
+    ensures { λ r. ⌜ r ≡ saysDatetime (now (s .entry)) ⌝ }
 {
-    if !is_shaped(s) {
-        return false;
+    if is_exact(s) {
+        return true;
     }
-    if !is_time(time_in(s)) {
-        return false;
-    }
-    let sign = s[21];
+    is_starred(s)
+}
+
+fn span_in(s: &[u8]) -> Span
+    requires { ⌜ saysDatetime (now s) ≡ true ⌝ }
+    ensures { λ r. ⌜ r ≡ spanTo (known (now (s .entry))) (now (s .entry)) ⌝ }
+{
+    let known = known_in(s);
+    let mut text = [0u8; 25];
+    fill_lowest(known, s, &mut text);
+    let lowest = microseconds_in(&text);
+    fill_highest(known, s, &mut text);
+    let highest = microseconds_in(&text);
+    Span { lowest, highest }
+}
+
+fn sort_by_sign(sign: u8, span: Span) -> Datetime
+    ensures { λ r. ⌜ r ≡ sorted (eqb sign 58) span ⌝ }
+{
     if sign == b':' {
-        return decimal_at(s, 22, 3) == 0;
+        return Datetime::Interval(span);
     }
-    is_sign(sign) & is_date(date_in(s))
+    Datetime::Timestamp(span)
 }
 
 pub fn read_datetime(s: &[u8]) -> Datetime
     ensures { λ r. ⌜ r ≡ datetimeOf (now (s .entry)) ⌝ }
 {
-    if !is_datetime(s) {
+    if is_exact(s) {
+        let moment = microseconds_in(s);
+        return sort_by_sign(
+            s[21],
+            Span {
+                lowest: moment,
+                highest: moment,
+            },
+        );
+    }
+    if !is_starred(s) {
         return Datetime::Malformed;
     }
-    let t = time_in(s);
-    let sign = s[21];
-    if sign == b':' {
-        return Datetime::Interval(add_time(decimal_at(s, 0, 8), t) as i64);
-    }
-    let local = add_time(days_before(date_in(s)), t);
-    Datetime::Timestamp(less_offset(local, sign, decimal_at(s, 22, 3)))
+    let span = span_in(s);
+    sort_by_sign(s[21], span)
 }

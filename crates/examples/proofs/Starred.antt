@@ -22,7 +22,9 @@ use Rattle.real.specs.Real as real-real
 use Rattle.real.specs.Scale as real-scale
 use Rattle.datetime.specs.Calendar as datetime-calendar
 use Rattle.datetime.specs.Datetime as datetime-datetime
+use Rattle.datetime.specs.Order as datetime-order
 use Rattle.datetime.specs.Text as datetime-text
+use Rattle.datetime.specs.Unknown as datetime-unknown
 use Rattle.pattern.specs.Character as pattern-character
 use Rattle.pattern.specs.Fragment as pattern-fragment
 use Rattle.pattern.specs.Reading as pattern-reading
@@ -118,7 +120,9 @@ unfolding
     real-scale.scaleOf
     datetime-calendar.leapYears datetime-calendar.daysBeforeMonth
     datetime-datetime.datetimeOf
+    datetime-order.orderOfSpans
     datetime-text.shaped datetime-text.dateIn datetime-text.timeIn
+    datetime-unknown.starFrom datetime-unknown.known datetime-unknown.filled datetime-unknown.lowestText datetime-unknown.highestText
     pattern-character.special pattern-character.startsWith
     pattern-fragment.fragmentOf
     pattern-reading.escaped pattern-reading.member pattern-reading.range pattern-reading.members pattern-reading.setFrom pattern-reading.symbol pattern-reading.repeated pattern-reading.symbolItem pattern-reading.ends pattern-reading.parse pattern-reading.alternatives pattern-reading.sequence pattern-reading.item

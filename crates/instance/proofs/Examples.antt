@@ -4,6 +4,7 @@ use mathlib.Core.List.{List}
 use mathlib.Core.Path.{_≡_, refl}
 use lib.ListN.{length}
 use Rattle.base.specs.LittleEndian
+use Rattle.base.specs.Part
 use Rattle.base.specs.Range
 use Rattle.base.specs.Walk
 use Rattle.base.specs.Digit
@@ -15,8 +16,10 @@ use Rattle.record.specs.Kind
 use Rattle.unicode.specs.WellFormed
 use Rattle.unicode.specs.Scalar
 use Rattle.unicode.specs.Characters
+use Rattle.text_writer.specs.Decimal
 use Rattle.datetime.specs.Calendar
 use Rattle.datetime.specs.Text
+use Rattle.datetime.specs.Unknown
 use Rattle.datetime.specs.Datetime
 use Rattle.table.specs.Properties
 use Rattle.table.specs.Sample.{sampleTable}
@@ -38,7 +41,8 @@ unfolding
     LittleEndian.unsigned Walk.walk Walk.from Record.recordAt Record.records Write.littleEndian Write.stored Write.write Kind.integerKind Kind.scalarKind Kind.kindOf
     Range.within Digit.digitOf Digit.allDigits Digit.valueOf Properties.kindsIn
     WellFormed.inRange WellFormed.fits WellFormed.sequenceIn WellFormed.sequenceAt WellFormed.illFormedFrom
-    Calendar.leapYears Calendar.daysBeforeMonth Text.shaped Text.dateIn Text.timeIn Datetime.datetimeOf
+    Calendar.leapYears Calendar.daysBeforeMonth Text.shaped Text.dateIn Text.timeIn
+    Decimal.digitsWithin Decimal.decimal Part.sameBytes Unknown.starFrom Unknown.known Unknown.filled Unknown.lowestText Unknown.highestText Datetime.datetimeOf
     Body.booleanFits Body.textFits Body.char16Fits Body.datetimeFits Fault.elementsFit Fault.furtherFault Fault.faultIn Fault.faultUnder
 all-judged = (refl, refl, refl)
 
@@ -60,6 +64,7 @@ unfolding
     LittleEndian.unsigned Walk.walk Walk.from Record.recordAt Record.records Write.littleEndian Write.stored Write.write Kind.integerKind Kind.scalarKind Kind.kindOf
     Range.within Digit.digitOf Digit.allDigits Digit.valueOf Properties.kindsIn
     WellFormed.inRange WellFormed.fits WellFormed.sequenceIn WellFormed.sequenceAt WellFormed.illFormedFrom
-    Calendar.leapYears Calendar.daysBeforeMonth Text.shaped Text.dateIn Text.timeIn Datetime.datetimeOf
+    Calendar.leapYears Calendar.daysBeforeMonth Text.shaped Text.dateIn Text.timeIn
+    Decimal.digitsWithin Decimal.decimal Part.sameBytes Unknown.starFrom Unknown.known Unknown.filled Unknown.lowestText Unknown.highestText Datetime.datetimeOf
     Body.booleanFits Body.textFits Body.char16Fits Body.datetimeFits Fault.elementsFit Start.startOf Noted.noted Noted.fitting Noted.notesUnder
 all-walked = refl

@@ -1,13 +1,12 @@
 -- One law for each way out of the functions of src/.
 use Prim.Native.Nat.{ℕ, zero, suc, _+_, _-_, _≤_, _<_}
 use mathlib.Core.List.{List}
-use mathlib.Core.Bool.{Bool, true, false, not, _||_}
+use mathlib.Core.Bool.{Bool, true, false, not}
 use mathlib.Core.Path.{_≡_, refl, sym, ap, _∙_}
 use native.Mathlib.Omega.{arith}
 use native.Mathlib.Numerals.{add-one}
 use lib.ListN.{length}
 use lib.Dec.{eqb}
-use lib.IntN.{ℤ}
 use borrow.Author.Tests.{lt-ltb, le-ltb, eq-eqb, ne-eqb, not-true, not-false}
 use Rattle.base.specs.Pick.{pick}
 use Rattle.base.specs.Part.{part}
@@ -22,8 +21,11 @@ use Rattle.record.specs.declared.kind.ValueType.{ValueType}
 use Rattle.record.specs.declared.kind.Kind.{Kind}
 use Rattle.record.specs.declared.kind.Kind.the-variants.{Scalar}
 use Rattle.record.proofs.Records.{records-whole, records-broken, records-end}
-use Rattle.datetime.specs.Datetime.{isTimestamp, isInterval, moment, intervalLength, datetimeOf}
-use Rattle.datetime.specs.declared.Datetime.the-variants.{Timestamp, Interval, Malformed}
+use Rattle.datetime.specs.Text.{hasColon}
+use Rattle.datetime.specs.Unknown.{known}
+use Rattle.datetime.specs.Datetime.{saysDatetime, spanTo, sorted, datetimeOf}
+use Rattle.datetime.specs.declared.Span.{Span}
+use Rattle.datetime.specs.declared.Datetime.the-variants.{Malformed}
 use Rattle.instance.specs.declared.conform.InstanceFault.the-variants.{TooLong}
 use Rattle.instance.specs.declared.conform.Conformity.{Conformity}
 use Rattle.instance.specs.declared.conform.Conformity.the-variants.{Conforming, Fault}
@@ -33,14 +35,14 @@ use Rattle.instance.specs.Fault.{faultAt, isNull, slotFits, elementsFit,
 use Rattle.instance.specs.Start.{nextAt, startOf}
 
 -- a datetime
-pub datetime-fits : (s : List ℕ) {r : Bool} → r ≡ (isTimestamp s || isInterval s) → r ≡ datetimeFits s
+pub datetime-fits : (s : List ℕ) {r : Bool} → r ≡ saysDatetime s → r ≡ datetimeFits s
 unfolding datetimeFits datetimeOf
-datetime-fits s e = e ∙ go (isTimestamp s) (isInterval s) (moment s) (intervalLength s)
+datetime-fits s e = e ∙ go (saysDatetime s) (hasColon s) (spanTo (known s) s)
   where
-    go : (a b : Bool) (m n : ℤ) → (a || b) ≡ isDatetime (pick a (Timestamp m) (pick b (Interval n) Malformed))
-    go true b m n = refl
-    go false true m n = refl
-    go false false m n = refl
+    go : (says colon : Bool) (x : Span) → says ≡ isDatetime (pick says (sorted colon x) Malformed)
+    go true true x = refl
+    go true false x = refl
+    go false colon x = refl
 
 -- a numeric body by its length
 numeric-width : (f : Family) (width : ℕ) (s : List ℕ) → isNumeric f ≡ true → eqb (length s) width ≡ familyFits f width s

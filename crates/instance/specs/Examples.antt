@@ -65,6 +65,10 @@ types =
     ∷ ((one 9, write 9 (bytes "00000003112233.000000:000")), Conforming)
     ∷ ((one 9, write 9 (bytes "20050229112233.000000+000")), faultAt 0)
     ∷ ((one 9, write 9 (bytes "20040229112233.000000+00")), faultAt 0)
+    ∷ ((one 9, write 9 (bytes "200402********.******-999")), Conforming)
+    ∷ ((one 9, write 9 (bytes "00000003112233.******:000")), Conforming)
+    ∷ ((one 9, write 9 (bytes "20050229******.******+000")), faultAt 0)
+    ∷ ((one 9, write 9 (bytes "20040229112233.******+00*")), faultAt 0)
     ∷ ((one 10, write 10 (bytes "a:b/c")), Conforming)
     ∷ ((one 10, write 10 (0xff ∷ [])), faultAt 0)
     -- NULL, of a scalar and of an array; with a body

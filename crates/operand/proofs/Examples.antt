@@ -1,6 +1,7 @@
 -- The readings of specs/Examples, computed.
 use mathlib.Core.Path.{_≡_, refl}
 use lib.Ieee.{ofInt, mul, div, neg, round}
+use Rattle.base.specs.Part.{sameBytes}
 use Rattle.base.specs.Range.{within}
 use Rattle.base.specs.Walk.{walk, from}
 use Rattle.base.specs.Digit.{digitOf, allDigits, valueOf, sizeUnder}
@@ -10,7 +11,9 @@ use Rattle.unicode.specs.WellFormed.{inRange, sequenceIn, sequenceAt}
 use Rattle.unicode.specs.WellFormed as utf
 use Rattle.unicode.specs.Scalar.{isScalarValue, scalarOf, scalarAt, encode}
 use Rattle.real.specs.Real.{magnitude, realOf}
+use Rattle.text_writer.specs.Decimal.{digitsWithin, decimal}
 use Rattle.datetime.specs.Text.{shaped, dateIn, timeIn}
+use Rattle.datetime.specs.Unknown.{starFrom, known, filled, lowestText, highestText}
 use Rattle.datetime.specs.Datetime.{datetimeOf}
 use Rattle.datetime.specs.Calendar.{leapYears, daysBeforeMonth}
 use Rattle.record.specs.Name.{letter, nameByte, lower, sameName}
@@ -41,7 +44,8 @@ pub literals-right : results literalBeside literals ≡ expected literals
 unfolding
     readLiteral noDatetime fits textValue literalValue hexPairs wordSort formSort sortOf unsignedHex wordLiteral hexLiteralOf numberLiteral literalOf
     digitsOf exponentSize exponentBelow realFrom realLiteralOf baseOf leadOf digitCount magnitudeFrom integer.magnitude withSign integerBy integerOf
-    magnitude realOf ofInt mul div neg round shaped dateIn timeIn datetimeOf leapYears daysBeforeMonth
+    magnitude realOf ofInt mul div neg round shaped dateIn timeIn leapYears daysBeforeMonth
+    digitsWithin decimal sameBytes starFrom known filled lowestText highestText datetimeOf
     tokenAt tokenFrom longestAt symbolToken symbolOf singleKind pairKind textToken numberToken wordToken wordKind longer fitted isToken
     textAt charactersOf bytesOf endOr stringLiteral unicodeChar rawAt plainEscape hexRun unicodeEscape escapeAt charAt
     signed unsignedInteger decimalLiteral binaryBody binaryLiteral numeral.hexPairs hexBody hexLiteral exactNumeric exponentPart realBody realLiteral

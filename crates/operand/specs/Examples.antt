@@ -46,6 +46,9 @@ literals =
     ∷ ((family.Reference, bytes "'a'"), reads (some (reference (97 ∷ []))))
     ∷ ((family.Datetime, bytes "'20051003112233.000000+000'"), reads (some (datetime (datetimeOf (bytes "20051003112233.000000+000")))))
     ∷ ((family.Datetime, bytes "'20051003112233.000000'"), malformed)
+    ∷ ((family.Datetime, bytes "'200510031122**.******+000'"), reads (some (datetime (datetimeOf (bytes "200510031122**.******+000")))))
+    ∷ ((family.Datetime, bytes "'2005100311223*.******+000'"), malformed)
+    ∷ ((family.Datetime, bytes "'200510031122**.******+00*'"), malformed)
     ∷ ((family.Octets, bytes "NULL"), reads none)
     ∷ ((family.Text, bytes "Name"), misfit)
     ∷ []

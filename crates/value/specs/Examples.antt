@@ -95,4 +95,7 @@ comparisons =
     ∷ (it Equal (moment (bytes "20051003112233.000000+000")) (moment (bytes "20051003122233.000000+060")), true)
     ∷ (it Unequal (moment (bytes "20051003112233.000000+000")) (moment (bytes "00000001000000.000000:000")), true)
     ∷ (it Less (moment (bytes "00000001000000.000000:000")) (moment (bytes "20051003112233.000000+000")), false)
+    ∷ (it Less (moment (bytes "200510031122**.******+000")) (moment (bytes "20051003112300.000000+000")), true)
+    ∷ (it AtMost (moment (bytes "200510031122**.******+000")) (moment (bytes "20051003112233.000000+000")), false)
+    ∷ (it Equal (moment (bytes "200510031122**.******+000")) (moment (bytes "200510031222**.******+060")), true)
     ∷ []

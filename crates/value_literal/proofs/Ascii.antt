@@ -1,22 +1,31 @@
 -- A datetime's characters are ASCII, and there are 25; one law for each exit of the loop that copies them.
 use Prim.Native.Nat.{ℕ, _+_, _-_, _≤_, _<_}
 use mathlib.Core.List.{List, [], _∷_, _++_, append-nil}
-use mathlib.Core.Bool.{Bool, true, false}
+use mathlib.Core.Bool.{Bool, true, false, _||_}
 use mathlib.Core.Path.{_≡_, refl, sym, _∙_}
+use mathlib.Core.Logic.{_⊎_, inl, inr}
 use native.Mathlib.Omega.{arith}
 use lib.ListN.{length, take, length-append}
 use lib.Seq.{length-take-le, getD-append-add}
 use lib.Dec.{eqb, ltb}
-use borrow.Author.Tests.{eqb-true, eqb-false, ltb-true, ltb-false, ne-eqb}
+use borrow.Author.Tests.{eqb-true, eqb-false, ltb-true, ltb-false}
+use Rattle.base.specs.Pick.{pick}
 use Rattle.base.specs.Part.{part, byteAt}
 use Rattle.base.specs.Digit.{allDigits}
-use Rattle.base.proofs.Says.{and-both, and-false}
+use Rattle.base.proofs.Says.{and-both}
 use Rattle.base.proofs.DecimalDigits.{decimal-digits}
-use Rattle.datetime.specs.Text.{shaped, timeIn, signIn}
-use Rattle.datetime.specs.Fields.{isTime}
-use Rattle.datetime.specs.Datetime.{datetimeOf}
+use Rattle.datetime.specs.Text.{shaped, signIn, hasColon}
+use Rattle.datetime.specs.Exact.{isTimestamp, isInterval}
+use Rattle.datetime.specs.Unknown.{known, filled, lowestDigits, lowestText}
+use Rattle.datetime.specs.Datetime.{saysDatetime, spanTo, sorted, datetimeOf}
 use Rattle.datetime.specs.declared.Datetime.{Datetime}
 use Rattle.datetime.specs.declared.Datetime.the-variants.{Malformed}
+use Rattle.datetime.proofs.Laws.{exact-shaped}
+use Rattle.datetime.proofs.Sorts.{sign-is}
+use Rattle.datetime.proofs.Known.{known-most}
+use Rattle.datetime.proofs.Filled.{byte-known, byte-after}
+use Rattle.datetime.proofs.NothingUnknown.{lowest-full}
+use Rattle.datetime.proofs.Highest.{text-long, lowest-exact, tail-byte}
 use Rattle.string_literal.specs.declared.InString.{InString}
 use Rattle.string_literal.specs.declared.InString.the-variants.{Character}
 use Rattle.string_literal.specs.Char.{charAt}
@@ -25,14 +34,17 @@ use Rattle.string_literal.proofs.Filling.{next-character}
 use Rattle.value_literal.specs.declared.datetime_text.Copy.{Copy}
 use Rattle.value_literal.specs.declared.datetime_text.Copy.the-variants.{Count, NoDatetime}
 use Rattle.value_literal.specs.DatetimeText.{Copied}
-use Rattle.datetime.proofs.Accepted.{malformed-is}
-use Rattle.datetime.proofs.Laws.{not-long}
 
-unshaped : (s : List ℕ) → shaped s ≡ false → datetimeOf s ≡ Malformed
-unshaped s h = malformed-is s (rw h) (rw h)
+says-none : (s : List ℕ) → (saysDatetime s ≡ true → ⊥) → datetimeOf s ≡ Malformed
+unfolding datetimeOf
+says-none s h = go (saysDatetime s) refl
+  where
+    go : (b : Bool) → saysDatetime s ≡ b → pick b (sorted (hasColon s) (spanTo (known s) s)) Malformed ≡ Malformed
+    go true e = absurd (h e)
+    go false e = refl
 
 pub too-long : (s : List ℕ) → 25 < length s → datetimeOf s ≡ Malformed
-too-long s h = unshaped s (sym (not-long s (λ e. omega arith)))
+too-long s h = says-none s (λ e. omega (arith, text-long (known s) s (known-most s) e))
 
 module _ (s : List ℕ) where
   digit-small : (at n k : ℕ) → allDigits 10 s at n ≡ true → at ≤ k → k < at + n → byteAt s k ≤ 57
@@ -70,22 +82,49 @@ module _ (s : List ℕ) where
       by-14 z p f g true e = digit-small 0 14 k z (omega arith) (omega (arith, ltb-true k 14 e))
       by-14 z p f g false e = by-point p f g (ltb-false k 14 e) (eqb k 14) refl
 
-  no-sign : 127 < signIn s → datetimeOf s ≡ Malformed
-  no-sign h =
-      let p : eqb (signIn s) 43 ≡ false = ne-eqb (signIn s) 43 (λ e. omega arith) in
-      let q : eqb (signIn s) 45 ≡ false = ne-eqb (signIn s) 45 (λ e. omega arith) in
-      let r : eqb (signIn s) 58 ≡ false = ne-eqb (signIn s) 58 (λ e. omega arith) in
-      malformed-is s
-      (rw (p, q, and-false (isTime (timeIn s)), and-false (shaped s)))
-      (rw (r, and-false (isTime (timeIn s)), and-false (shaped s)))
+  -- of a text without stars, the sign's place too
+  exact-small : (isTimestamp s || isInterval s) ≡ true → (k : ℕ) → k < 25 → byteAt s k ≤ 58
+  exact-small h k l = go (eqb k 21) refl
+    where
+      sign : (signIn s ≡ 43) ⊎ ((signIn s ≡ 45) ⊎ (signIn s ≡ 58)) → signIn s ≤ 58
+      sign (inl e) = omega arith
+      sign (inr (inl e)) = omega arith
+      sign (inr (inr e)) = omega arith
+
+      go : (u : Bool) → eqb k 21 ≡ u → byteAt s k ≤ 58
+      go true f = rw (eqb-true k 21 f) (sign (sign-is s h))
+      go false f = let z = small (exact-shaped s h) k l (eqb-false k 21 f) in omega arith
+
+-- a byte of a datetime is the lowest text's, a star, or the point
+module _ (s : List ℕ) where
+  module _ (said : saysDatetime s ≡ true) where
+    long : length s ≡ 25
+    long = text-long (known s) s (known-most s) said
+
+    lowest-small : (k : ℕ) → k < 25 → byteAt (filled (known s) (lowestDigits (hasColon s)) s) k ≤ 58
+    unfolding lowestText
+    lowest-small = exact-small (lowestText (known s) s) (lowest-exact (known s) s (known-most s) said)
+
+    star-small : (k : ℕ) → known s ≤ k → k < 21 → byteAt s k ≤ 58
+    star-small k g h = rw (tail-byte (known s) s (known-most s) said k g h) (either (eqb k 14))
+      where
+        either : (b : Bool) → pick b 46 42 ≤ 58
+        either true = omega arith
+        either false = omega arith
+
+    byte-small : (k : ℕ) → k < 25 → byteAt s k ≤ 58
+    byte-small k l = go (ltb k (known s)) refl (ltb k 21) refl
+      where
+        digits : List ℕ
+        digits = lowestDigits (hasColon s)
+
+        go : (a : Bool) → ltb k (known s) ≡ a → (b : Bool) → ltb k 21 ≡ b → byteAt s k ≤ 58
+        go true e b f = rw (← byte-known (known s) digits s (known-most s) long (lowest-full (hasColon s)) k (ltb-true k (known s) e)) (lowest-small k l)
+        go false e true f = star-small k (ltb-false k (known s) e) (ltb-true k 21 f)
+        go false e false f = rw (← byte-after (known s) digits s (known-most s) long (lowest-full (hasColon s)) k (ltb-false k 21 f)) (lowest-small k l)
 
   pub not-ascii : (k : ℕ) → k < 25 → 127 < byteAt s k → datetimeOf s ≡ Malformed
-  not-ascii k l h = go (shaped s) refl (eqb k 21) refl
-    where
-      go : (t : Bool) → shaped s ≡ t → (u : Bool) → eqb k 21 ≡ u → datetimeOf s ≡ Malformed
-      go false e u f = unshaped s e
-      go true e true f = no-sign (rw (eqb-true k 21 f) at h)
-      go true e false f = absurd (let z = small e k l (eqb-false k 21 f) in omega arith)
+  not-ascii k l h = says-none s (λ said. omega (arith, byte-small said k l))
 
 -- characters copied so far, and those that are left
 module _ (cs rest out : List ℕ) (n : ℕ) (inv : cs ≡ take n out ++ rest) (full : length out ≡ 25) where

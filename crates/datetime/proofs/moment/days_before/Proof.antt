@@ -14,7 +14,7 @@ is-leap-year-requires : tie.Need-is-leap-year-requires
 is-leap-year-requires c κs = search needs
 
 days-before-month-requires : tie.Need-days-before-month-requires
-days-before-month-requires c κs = let b = date-bounds (c .before .before .args .d) ((c .before .before .pre) .0) in omega arith
+days-before-month-requires c κs = let b = date-bounds (c .before .before .args .d) ((c .before .before .pre) .0) in (b .first-month, b .last-month)
 
 add-result : tie.Need-add-result
 add-result c = search needs

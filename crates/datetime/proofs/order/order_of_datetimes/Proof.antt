@@ -1,6 +1,3 @@
-use mir.Facts.{toZ-ofZ}
-use borrow.Author.Needs.{sfits-of}
-use mir.Syntax.{w64}
 use borrow.Author.Needs.{needs}
 use Rattle.datetime.proofs.order.order_of_datetimes.Statement.{statement}
 use Rattle.datetime.proofs.order.order_of_datetimes.Tie as tie
@@ -11,8 +8,8 @@ enum-known-a c = search needs
 enum-known-b : tie.Need-enum-known-b
 enum-known-b c = search needs
 
-order-of-microseconds-requires : tie.Need-order-of-microseconds-requires
-order-of-microseconds-requires c κs = search needs
+order-of-spans-requires : tie.Need-order-of-spans-requires
+order-of-spans-requires c κs = search needs
 
 enum-told : tie.Need-enum-told
 enum-told c = search needs
@@ -29,8 +26,8 @@ enum-told-3 c = search needs
 enum-known-b-2 : tie.Need-enum-known-b-2
 enum-known-b-2 c = search needs
 
-order-of-microseconds-requires-2 : tie.Need-order-of-microseconds-requires-2
-order-of-microseconds-requires-2 c κs = search needs
+order-of-spans-requires-2 : tie.Need-order-of-spans-requires-2
+order-of-spans-requires-2 c κs = search needs
 
 enum-told-4 : tie.Need-enum-told-4
 enum-told-4 c = search needs
@@ -39,7 +36,7 @@ enum-told-5 : tie.Need-enum-told-5
 enum-told-5 c = search needs
 
 returns : tie.Need-returns
-returns c = rw (c .before .before .before .before .before .a .given .1, c .before .before .b .given .1) (rw (toZ-ofZ {w = w64} (sfits-of (c .before .before .before .before .known-told .given .0 .1)), toZ-ofZ {w = w64} (sfits-of (c .before .known-told2 .given .0 .1))) at (c .order-of-microseconds .ensures))
+returns c = rw (c .before .before .before .before .before .a .given .1, c .before .before .b .given .1) (c .order-of-spans .ensures)
 
 returns-2 : tie.Need-returns-2
 returns-2 c = search needs
@@ -51,7 +48,7 @@ returns-4 : tie.Need-returns-4
 returns-4 c = search needs
 
 returns-5 : tie.Need-returns-5
-returns-5 c = rw (c .before .before .before .before .before .a2 .given .1, c .before .before .b2 .given .1) (rw (toZ-ofZ {w = w64} (sfits-of (c .before .before .before .before .known-told3 .given .0 .1)), toZ-ofZ {w = w64} (sfits-of (c .before .known-told4 .given .0 .1))) at (c .order-of-microseconds2 .ensures))
+returns-5 c = rw (c .before .before .before .before .before .a2 .given .1, c .before .before .b2 .given .1) (c .order-of-spans2 .ensures)
 
 returns-6 : tie.Need-returns-6
 returns-6 c = search needs
@@ -65,13 +62,13 @@ order-of-datetimes-spec =
     (tie.spec
     enum-known-a
     enum-known-b
-    order-of-microseconds-requires
+    order-of-spans-requires
     enum-told
     enum-told-2
     enum-known-a-2
     enum-told-3
     enum-known-b-2
-    order-of-microseconds-requires-2
+    order-of-spans-requires-2
     enum-told-4
     enum-told-5
     returns

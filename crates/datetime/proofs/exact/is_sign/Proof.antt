@@ -1,6 +1,6 @@
 use borrow.Author.Tests.{eq-eqb, ne-eqb}
-use Rattle.datetime.proofs.read.is_sign.Statement.{statement}
-use Rattle.datetime.proofs.read.is_sign.Tie as tie
+use Rattle.datetime.proofs.exact.is_sign.Statement.{statement}
+use Rattle.datetime.proofs.exact.is_sign.Tie as tie
 
 returns : tie.Need-returns
 returns c = rw (eq-eqb _ _ (c .if1 .taken))

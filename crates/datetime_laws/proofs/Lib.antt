@@ -1,0 +1,10 @@
+pub mod Relate
+pub mod Mirror
+pub mod Monotone
+pub mod Dates
+pub mod Alike
+pub mod Ends
+pub mod Completions
+pub mod Spans
+pub mod Starless
+pub mod Texts
