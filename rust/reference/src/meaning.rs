@@ -83,6 +83,31 @@ impl Meaning<'_> {
         }
     }
 
+    /// The array on the right side.
+    fn right_array(&self, c: &Comparison) -> Option<Vec<Value>> {
+        match &c.right {
+            Right::Property(path) => self.array(path).map(<[Value]>::to_vec),
+            right => Some(literals(right).iter().map(|token| self.literal(token, c)).collect()),
+        }
+    }
+
+    /// The values that a comparison would set beside each other if no search ended early.
+    pub fn pairs(&self, c: &Comparison) -> Vec<(Value, Value)> {
+        if !matches!(c.operation, Operation::Compare(_)) {
+            return Vec::new();
+        }
+        if is_whole_array(c, self.kind(&c.left)) {
+            let left = self.array(&c.left).unwrap_or_default().iter().cloned();
+            return left.zip(self.right_array(c).unwrap_or_default()).collect();
+        }
+        let left = match c.quantifier {
+            Quantifier::Single => vec![self.scalar(&c.left)],
+            Quantifier::Any | Quantifier::Every => self.array(&c.left).unwrap_or_default().to_vec(),
+        };
+        let right = self.right(c);
+        left.into_iter().map(|value| (value, right.clone())).collect()
+    }
+
     /// LIKE on NULL is false; NOT reverses it. Every character counts, also where the match is lost early.
     fn like(&self, c: &Comparison, token: &Token, negated: bool) -> Judgement {
         let Value::Text(text) = self.scalar(&c.left) else { return (negated, 1) };
@@ -104,12 +129,8 @@ impl Meaning<'_> {
 
     /// Arrays of equal size count one for each pair up to and with the first unequal one.
     fn arrays(&self, c: &Comparison, operator: Operator) -> Judgement {
-        let written: Vec<Value> = literals(&c.right).iter().map(|token| self.literal(token, c)).collect();
-        let right = match &c.right {
-            Right::Property(path) => self.array(path),
-            _ => Some(&written[..]),
-        };
-        let (same, pairs) = match (self.array(&c.left), right) {
+        let right = self.right_array(c);
+        let (same, pairs) = match (self.array(&c.left), right.as_deref()) {
             (None, None) => (true, 0),
             (Some(a), Some(b)) if a.len() == b.len() => {
                 let unequal = a.iter().zip(b).position(|(x, y)| !equal(x, y));

@@ -85,7 +85,7 @@ pub fn equal(a: &Value, b: &Value) -> bool {
     }
 }
 
-/// How two values of one ordered row stand to each other; NULL and NaN, and a timestamp and an interval, do not.
+/// How two values of one ordered row stand to each other; NULL and NaN do not, nor do datetimes that are undecided.
 fn order(a: &Value, b: &Value) -> Option<Ordering> {
     match (a, b) {
         (Value::Null, _) | (_, Value::Null) => None,

@@ -1,5 +1,6 @@
 //! Random datetimes, and texts that are none.
 
+use super::unknown_digits::{end, spoiled, with_tail};
 use crate::datetime::parse;
 use crate::random::Random;
 
@@ -15,7 +16,16 @@ const FIXED: [&str; 9] = [
     "99999999235959.999999:000",
 ];
 
+/// A datetime; of every five, two have unknown digits.
 pub fn text(r: &mut Random) -> String {
+    let known = known(r);
+    match r.below(5) {
+        0 | 1 => with_tail(r, &known),
+        _ => known,
+    }
+}
+
+fn known(r: &mut Random) -> String {
     if r.chance(2) {
         return r.pick(&FIXED).to_owned();
     }
@@ -45,40 +55,48 @@ fn clock(r: &mut Random) -> String {
     }
 }
 
-/// A datetime near another: itself, the same moment written with another offset, or one that differs in a digit.
+/// A datetime near another: itself, the same moments written with another offset, one with more unknown digits, one at
+/// an end of its span, or one that differs in a known digit.
 pub fn near(r: &mut Random, text: &str) -> String {
-    let changed = match r.below(3) {
+    match r.below(8) {
         0 => text.to_owned(),
-        1 => shifted(r, text),
-        _ => {
-            let at = r.below(25);
-            let digit = char::from(b'0' + r.below(10) as u8);
-            format!("{}{digit}{}", &text[..at], &text[at + 1..])
-        }
-    };
-    if parse(changed.as_bytes()).is_some() {
-        changed
-    } else {
-        text.to_owned()
+        1 | 2 => shifted(r, text),
+        3 => with_tail(r, text),
+        4 => end(r, text),
+        _ => with_another_digit(r, text),
     }
 }
 
-/// Some minutes later, so many minutes further from UTC.
+/// The text itself, where no other is found.
+fn with_another_digit(r: &mut Random, text: &str) -> String {
+    let found = (0..20).find_map(|_| {
+        let at = r.below(25);
+        let digit = char::from(b'0' + r.below(10) as u8);
+        let changed = format!("{}{digit}{}", &text[..at], &text[at + 1..]);
+        (changed != text && parse(changed.as_bytes()).is_some()).then_some(changed)
+    });
+    found.unwrap_or(text.to_owned())
+}
+
+/// Some minutes later, so many minutes further from UTC; where the minutes are unknown, some hours.
 fn shifted(r: &mut Random, text: &str) -> String {
-    let (minute, offset): (usize, usize) = (text[10..12].parse().unwrap(), text[22..25].parse().unwrap());
-    let by = r.below(60 - minute);
-    if &text[21..22] != "+" || offset + by > 999 {
+    let (unit, at, units) = if &text[10..12] == "**" { (60, 8, 24) } else { (1, 10, 60) };
+    let (Ok(found), Ok(offset)) = (text[at..at + 2].parse::<usize>(), text[22..25].parse::<usize>()) else {
+        return text.to_owned();
+    };
+    let by = r.below(units - found);
+    if &text[21..22] != "+" || offset + by * unit > 999 {
         return text.to_owned();
     }
-    format!("{}{:02}{}{:03}", &text[..10], minute + by, &text[12..22], offset + by)
+    format!("{}{:02}{}{:03}", &text[..at], found + by, &text[at + 2..22], offset + by * unit)
 }
 
 /// A text that is no datetime.
 pub fn malformed(r: &mut Random) -> String {
     loop {
-        let mut text = text(r);
+        let mut text = known(r);
         let at = r.below(25);
-        match r.below(7) {
+        match r.below(12) {
             0 => text.truncate(at),
             1 => text.push('0'),
             2 => return r.pick(&["", "x", "NULL", "20051003112233", "\u{e9}0051003112233.000000+000"]).to_owned(),
@@ -89,7 +107,8 @@ pub fn malformed(r: &mut Random) -> String {
                 let (field, value) = r.pick(&[(8, "24"), (10, "60"), (12, "60")]);
                 text.replace_range(field..field + 2, value);
             }
-            _ => text.replace_range(at..=at, &char::from(b'0' + r.below(10) as u8).to_string()),
+            6 => text.replace_range(at..=at, &char::from(b'0' + r.below(10) as u8).to_string()),
+            _ => text = spoiled(r, &text),
         }
         if parse(text.as_bytes()).is_none() {
             return text;

@@ -3,9 +3,12 @@
 use std::collections::BTreeMap;
 
 use super::operands::Operands;
+use super::spans::Spans;
 use super::Case;
 use crate::check::{self, find};
+use crate::instance::decode;
 use crate::kind::is_array;
+use crate::meaning::Meaning;
 use crate::syntax::{Comparison, Operation, Quantifier, Right};
 use crate::{Answer, Refusal};
 
@@ -37,6 +40,7 @@ pub struct Spread {
     /// Queries of one comparison, included and excluded.
     pub single: BTreeMap<&'static str, [usize; 2]>,
     pub operands: Operands,
+    pub spans: Spans,
 }
 
 /// The form of a comparison; one with an index is of that form, unless it is a LIKE.
@@ -61,16 +65,22 @@ impl Spread {
         self.cases += 1;
         *self.sorts.entry(case.sort).or_default() += 1;
         let answer = match found {
-            Err(refusal) => return *self.refusals.entry(refusal.number).or_default() += 1,
+            Err(refusal) => {
+                self.spans.add_refused(case, refusal);
+                return *self.refusals.entry(refusal.number).or_default() += 1;
+            }
             Ok(answer) => answer,
         };
         let verdict = usize::from(!answer.included);
         self.verdicts[verdict] += 1;
         let (table, comparisons) = check::read(&case.query, &case.table).unwrap();
+        let slots = decode(&table, &case.instance).unwrap();
+        let meaning = Meaning { query: &case.query, table: &table, slots: &slots };
         for (c, _) in &comparisons {
             let array = find(&case.query, &table, &c.left).is_some_and(|(_, kind)| is_array(kind));
             let form = form(c, array);
             *self.forms.entry(form).or_default() += 1;
+            self.spans.add(&meaning, c);
             let alone = comparisons.len() == 1;
             self.operands.add(&case.query, &table, c, alone.then_some(answer.included));
             if alone {
@@ -86,10 +96,11 @@ impl Spread {
         println!("comparisons of evaluated queries, by form: {:?}", self.forms);
         println!("queries of one comparison, [included, excluded]: {:?}", self.single);
         println!("comparisons and queries of one, by side and kind: {}", self.operands);
+        println!("datetimes with unknown digits: {}", self.spans);
     }
 
     /// Every number, verdict, form and kind of operand comes up at least so often; a form alone in a query with each
-    /// verdict a third as often.
+    /// verdict a third as often, and each sort of unknown digits half as often.
     pub fn assert_at_least(&self, least: usize) {
         for number in NUMBERS {
             let n = self.refusals.get(&number).copied().unwrap_or(0);
@@ -103,5 +114,6 @@ impl Spread {
             assert!(single.iter().all(|&n| 3 * n >= least), "{form} alone: {single:?}");
         }
         self.operands.assert_at_least(least);
+        self.spans.assert_at_least(least);
     }
 }

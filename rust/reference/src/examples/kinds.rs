@@ -10,7 +10,7 @@ const ROWS: [&str; 7] = ["B", "UI", "FD", "SC", "O", "T", "K"];
 const ORDERED: &str = "UIFDT";
 
 /// Literals, and the properties that they fit.
-const LITERALS: [(&str, &str); 13] = [
+const LITERALS: [(&str, &str); 14] = [
     ("TRUE", "B"),
     ("false", "B"),
     ("5", "UI"),
@@ -22,6 +22,7 @@ const LITERALS: [(&str, &str); 13] = [
     ("+0x05", "UI"),
     (".5", "FD"),
     ("'20051003112233.000000+000'", "SCTK"),
+    ("'200510031122**.******+000'", "SCTK"),
     ("'x'", "SCK"),
     ("NULL", "BUIFDSCOTK"),
 ];

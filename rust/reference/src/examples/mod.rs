@@ -17,7 +17,9 @@ pub mod records;
 pub mod runs;
 pub mod sample;
 pub mod setting;
+pub mod spans;
 pub mod text;
+pub mod unknown_digits;
 pub mod watches;
 pub mod widths;
 pub mod wrong_turns;
@@ -71,6 +73,8 @@ pub fn all() -> Vec<(&'static str, Vec<Example>)> {
         ("meaning", meaning::examples()),
         ("joins", joins::examples()),
         ("datetimes", datetimes::examples()),
+        ("unknown digits", unknown_digits::examples()),
+        ("spans", spans::examples()),
         ("patterns", patterns::examples()),
         ("precedence", precedence::examples()),
     ]

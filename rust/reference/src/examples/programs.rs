@@ -1,6 +1,6 @@
 //! Files with what the program prints (01, "A fan to try", last part; 02, Q-1).
 
-use super::setting::{array, null, sample, text, truth, uint64};
+use super::setting::{array, datetime, null, sample, text, truth, uint64};
 use crate::kind::{INSTANCE, NULL, STRING, UINT64};
 use crate::program::Files;
 use crate::record::write;
@@ -12,6 +12,7 @@ pub struct ProgramExample {
 
 pub fn examples() -> Vec<ProgramExample> {
     let mut out = answered();
+    out.extend(unknown_digits());
     out.extend(refused_tables());
     out.extend(refused_queries());
     out.extend(runs());
@@ -80,6 +81,27 @@ fn answered() -> Vec<ProgramExample> {
     ]
 }
 
+const OF_FOUR_TIMES: &str = "\
+1 excluded 1
+2 included 1
+3 excluded 1
+4 failed 31
+total 4 1 2 1
+";
+
+/// A moment, the minute before it, the hour that has both, and a minute whose offset has stars.
+fn unknown_digits() -> Vec<ProgramExample> {
+    let since = |s: &str| sample().with("Since", datetime(s)).instance();
+    let times = [
+        "20051003112300.000000+000",
+        "200510031122**.******+000",
+        "2005100311****.******+000",
+        "200510031122**.******+***",
+    ];
+    let query = b"Since < '20051003112300.000000+000'";
+    vec![tried(sample().table(), query, run(&times.map(since)), OF_FOUR_TIMES)]
+}
+
 fn refused_tables() -> Vec<ProgramExample> {
     let tried = |table, expected| tried(table, b"On = TRUE", sample_run(), expected);
     let long = |n: usize| [sample().table(), vec![0; n - 48]].concat();
@@ -112,6 +134,7 @@ fn refused_queries() -> Vec<ProgramExample> {
         tried(b"Temp < 18446744073709551616", "refused 23 7\n"),
         tried(b"Name LIKE '['", "refused 24 10\n"),
         tried(b"Since = '20051003112233.000000+00'", "refused 25 8\n"),
+        tried(b"Since = '20051003112233.000000+00*'", "refused 25 8\n"),
     ]
 }
 

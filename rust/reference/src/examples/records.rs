@@ -179,6 +179,7 @@ fn wrong_records() -> Vec<Example> {
         ("Name", reference("FAN_2")),
         ("Since", datetime("20050229000000.000000+000")),
         ("Since", datetime("20051003112233.000000+00")),
+        ("Since", datetime("20051003112233.000000+00*")),
         ("R", write(REAL64, &[0; 4])),
         ("R", write(REAL32, &[0; 4])),
     ];
