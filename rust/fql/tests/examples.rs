@@ -76,6 +76,16 @@ fn of_datetimes() {
 }
 
 #[test]
+fn of_unknown_digits() {
+    hold(examples::unknown_digits::examples());
+}
+
+#[test]
+fn of_spans() {
+    hold(examples::spans::examples());
+}
+
+#[test]
 fn of_patterns() {
     hold(examples::patterns::examples());
 }
@@ -88,7 +98,7 @@ fn of_the_order_of_refusals() {
 /// Each section above is one of all.
 #[test]
 fn no_section_is_left_out() {
-    assert_eq!(examples::all().len(), 14);
+    assert_eq!(examples::all().len(), 16);
 }
 
 #[test]

@@ -1,7 +1,6 @@
 //! Datetimes in values and in literals: which there are, and in what order they stand, beside a calendar that counts.
 
 use std::cmp::Ordering;
-use std::sync::LazyLock;
 
 use fql::record::write;
 use fql::types::DATETIME;
@@ -9,17 +8,13 @@ use reference::datetime::parse;
 use reference::random::{for_each_seed, Random};
 
 use crate::ask::{hold_to_orders, marks, refusal, table};
-use crate::calendar::{days, interval, timestamp, timestamp_at, Date};
+use crate::calendar::{timestamp, Date, DAY, DAYS};
+use crate::made::Made;
 use crate::quoted::quoted;
 use crate::seen::Seen;
 
-const DAY: i64 = 86_400_000_000;
-const MOST_DAYS: i64 = 99_999_999;
-
-static DAYS: LazyLock<Vec<Date>> = LazyLock::new(days);
-
 /// Holds the rule that tells datetimes from other texts, in values; an instance of another text doesn't conform.
-fn hold_in_values(texts: &[Vec<u8>], is_datetime: impl Fn(&[u8]) -> bool) {
+pub fn hold_in_values(texts: &[Vec<u8>], is_datetime: impl Fn(&[u8]) -> bool) {
     let instances: Vec<Vec<u8>> = texts.iter().map(|text| write(DATETIME, text)).collect();
     for (mark, text) in marks("A = NULL", &table(&[DATETIME]), &instances).into_iter().zip(texts) {
         let expected = if is_datetime(text) { fql::EXCLUDED } else { fql::FAILED };
@@ -28,7 +23,7 @@ fn hold_in_values(texts: &[Vec<u8>], is_datetime: impl Fn(&[u8]) -> bool) {
 }
 
 /// The same rule for a literal, which is 25 otherwise.
-fn hold_in_literal(literal: &str, is_datetime: bool) {
+pub fn hold_in_literal(literal: &str, is_datetime: bool) {
     let found = refusal(format!("A = {literal}").as_bytes(), &table(&[DATETIME]));
     assert_eq!(found, (!is_datetime).then_some((25, 4)), "{literal}");
 }
@@ -69,83 +64,52 @@ fn each_day_follows_the_one_before() {
     hold_to_orders("C", "A", &table, &instances, |_| Some(Ordering::Greater));
 }
 
-/// A datetime made from a number of microseconds.
-#[derive(Clone, Debug)]
-struct Made {
-    text: String,
-    is_interval: bool,
-    microseconds: i64,
-}
-
-impl Made {
-    fn order(&self, other: &Made) -> Option<Ordering> {
-        (self.is_interval == other.is_interval).then(|| self.microseconds.cmp(&other.microseconds))
-    }
-
-    fn at(r: &mut Random, is_interval: bool, microseconds: i64) -> Made {
-        if is_interval {
-            let microseconds = microseconds.clamp(0, MOST_DAYS * DAY + DAY - 1);
-            return Made { text: interval(microseconds), is_interval, microseconds };
-        }
-        let any = r.below(1_999) as i64 - 999;
-        let near = r.pick(&[0, 0, 1, -1, 60, -60, 999, -999]);
-        // A moment outside the calendar in UTC may be inside it with another offset.
-        let offsets = [near, any, 0, 999, -999];
-        let written = offsets.iter().find_map(|&offset| timestamp_at(&DAYS, microseconds, offset));
-        match written {
-            Some(text) => Made { text, is_interval, microseconds },
-            None => Made::at(r, is_interval, microseconds.clamp(0, DAYS.len() as i64 * DAY - 1)),
-        }
-    }
-
-    fn random(r: &mut Random) -> Made {
-        let is_interval = r.chance(4);
-        let days = if is_interval { MOST_DAYS } else { DAYS.len() as i64 - 1 };
-        let any = r.below(days as usize + 1) as i64;
-        let day = r.pick(&[any, any, any, 0, -1, days, 59, 60, 365, 366, 146_096, 146_097]);
-        let any = r.below(DAY as usize) as i64;
-        let of_day = r.pick(&[0, 1, DAY - 1, any]);
-        Made::at(r, is_interval, day * DAY + of_day)
-    }
-
-    /// One that is near: the same moment, or one that differs in one unit, written anew.
-    fn near(&self, r: &mut Random) -> Made {
-        let unit = r.pick(&[1, 1_000_000, 60_000_000, 3_600_000_000, DAY, 28 * DAY, 365 * DAY, 400 * 365 * DAY]);
-        let by = r.pick(&[0, 0, 1, -1]) * unit;
-        let is_interval = self.is_interval != r.chance(8);
-        Made::at(r, is_interval, self.microseconds + by)
+/// What two datetimes are an example of.
+fn sort(a: &Made, b: &Made) -> &'static str {
+    let spans = usize::from(a.is_span()) + usize::from(b.is_span());
+    match (spans, a.order(b)) {
+        _ if a.is_interval != b.is_interval => "timestamp beside interval",
+        (0, Some(Ordering::Equal)) if a.text == b.text => "equal, written alike",
+        (0, Some(Ordering::Equal)) => "equal, written otherwise",
+        (0, _) => "in order",
+        (1, None) => "span and moment, undecided",
+        (1, Some(_)) => "span and moment, in order",
+        (_, None) => "two spans, undecided",
+        (_, Some(Ordering::Equal)) if a.text == b.text => "equal spans, written alike",
+        (_, Some(Ordering::Equal)) => "equal spans, written otherwise",
+        (_, Some(_)) => "two spans, in order",
     }
 }
 
 fn orders(r: &mut Random) {
     let (pair, single) = (table(&[DATETIME, DATETIME]), table(&[DATETIME]));
-    let value = |made: &Made| write(DATETIME, made.text.as_bytes());
     let mut seen = Seen::default();
     for _ in 0..6_000 {
         let first = Made::random(r);
         let others: Vec<Made> = (0..8).map(|_| if r.chance(8) { Made::random(r) } else { first.near(r) }).collect();
-        let values: Vec<Vec<u8>> = others.iter().map(value).collect();
-        let pairs: Vec<Vec<u8>> = values.iter().map(|other| [value(&first), other.clone()].concat()).collect();
+        let values: Vec<Vec<u8>> = others.iter().map(Made::record).collect();
+        let pairs: Vec<Vec<u8>> = values.iter().map(|other| [first.record(), other.clone()].concat()).collect();
         let literal = quoted(r, &first.text);
         hold_to_orders("A", "B", &pair, &pairs, |n| first.order(&others[n]));
         hold_to_orders("A", &literal, &single, &values, |n| others[n].order(&first));
         for other in &others {
-            seen.add(match first.order(other) {
-                None => "timestamp beside interval",
-                Some(Ordering::Equal) if first.text == other.text => "equal, written alike",
-                Some(Ordering::Equal) => "equal, written otherwise",
-                Some(_) => "in order",
-            });
-            if first.microseconds < 0 || other.microseconds < 0 {
+            seen.add(sort(&first, other));
+            if first.lowest < 0 || other.lowest < 0 {
                 seen.add("before year 0 in UTC");
             }
         }
     }
     seen.assert_at_least(&[
         ("timestamp beside interval", 3_000),
-        ("equal, written alike", 3_000),
-        ("equal, written otherwise", 6_000),
-        ("in order", 15_000),
+        ("equal, written alike", 1_000),
+        ("equal, written otherwise", 2_000),
+        ("in order", 5_000),
+        ("span and moment, undecided", 3_000),
+        ("span and moment, in order", 3_000),
+        ("two spans, undecided", 3_000),
+        ("two spans, in order", 3_000),
+        ("equal spans, written alike", 1_000),
+        ("equal spans, written otherwise", 1_000),
         ("before year 0 in UTC", 1_000),
     ]);
 }
@@ -155,11 +119,14 @@ fn order_of_moments_and_intervals() {
     for_each_seed(orders);
 }
 
+/// The fields of a datetime, some of them out of range, and now and then stars from any place on.
 fn random_text(r: &mut Random) -> String {
     let date = format!("{:04}{:02}{:02}", r.below(10_000), r.below(14), r.below(33));
     let clock = format!("{:02}{:02}{:02}.{:06}", r.below(25), r.below(61), r.below(61), r.below(1_000_000));
     let zone = format!("{}{:03}", r.pick(&['+', '-', ':']), r.pick(&[0, 0, 1, 60, 999]));
-    date + &clock + &zone
+    let known = if r.chance(3) { r.below(21) } else { 21 };
+    let star = |(n, c)| if n >= known && c != '.' { '*' } else { c };
+    (date + &clock).chars().enumerate().map(star).collect::<String>() + &zone
 }
 
 fn texts(r: &mut Random) {
@@ -172,11 +139,21 @@ fn texts(r: &mut Random) {
         if let Ok(text) = std::str::from_utf8(&text) {
             hold_in_literal(&quoted(r, text), is_datetime(text.as_bytes()));
         }
-        seen.add(if is_datetime(&text) { "datetimes" } else { "other texts" });
+        seen.add(match (is_datetime(&text), text.contains(&b'*')) {
+            (true, false) => "datetimes",
+            (true, true) => "datetimes with stars",
+            (false, false) => "other texts",
+            (false, true) => "other texts with stars",
+        });
         texts.push(text);
     }
     hold_in_values(&texts, is_datetime);
-    seen.assert_at_least(&[("datetimes", 40_000), ("other texts", 40_000)]);
+    seen.assert_at_least(&[
+        ("datetimes", 30_000),
+        ("datetimes with stars", 15_000),
+        ("other texts", 30_000),
+        ("other texts with stars", 15_000),
+    ]);
 }
 
 #[test]

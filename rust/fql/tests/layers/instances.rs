@@ -18,9 +18,15 @@ fn body(r: &mut Random, kind: u16) -> Vec<u8> {
         CHAR16 => word[..2].to_vec(),
         OCTETS => word[..r.below(9)].to_vec(),
         DATETIME => {
-            let texts = ["20051003112233.000000+000", "00000229000000.000000-999", "99999999235959.999999:000"];
-            // A day that isn't there.
-            let text = if r.chance(4) { "19000229000000.000000+000" } else { r.pick(&texts) };
+            let texts = [
+                "20051003112233.000000+000",
+                "00000229000000.000000-999",
+                "99999999235959.999999:000",
+                "200510031122**.******+000",
+            ];
+            // A day that isn't there, and a second that is unknown in part.
+            let spoiled = ["19000229000000.000000+000", "2005100311223*.******+000"];
+            let text = if r.chance(4) { r.pick(&spoiled) } else { r.pick(&texts) };
             text.as_bytes().to_vec()
         }
         REAL64 => word.to_vec(),

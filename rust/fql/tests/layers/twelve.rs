@@ -48,8 +48,10 @@ fn octets(_: usize, n: usize) -> Value {
     (OCTETS, bytes, format!("0x{digits}"))
 }
 
+/// Each second is a day whose time is unknown.
 fn datetime(_: usize, n: usize) -> Value {
-    let text = format!("2005{:02}{:02}112233.000000+000", 1 + n / 28, 1 + n % 28);
+    let clock = if n.is_multiple_of(2) { "112233.000000" } else { "******.******" };
+    let text = format!("2005{:02}{:02}{clock}+000", 1 + n / 28, 1 + n % 28);
     (DATETIME, text.clone().into_bytes(), format!("'{text}'"))
 }
 
