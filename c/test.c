@@ -122,9 +122,6 @@ static void refusals_of_tables_and_instances(void) {
     EXPECT(is_failure(fql_evaluate(query, 9, table.bytes, table.length, zeros, 65536), FQL_INSTANCE_LENGTH, 0));
 }
 
-static const unsigned integer_types[] = {FQL_TYPE_UINT8, FQL_TYPE_UINT16, FQL_TYPE_UINT32, FQL_TYPE_UINT64,
-                                         FQL_TYPE_SINT8, FQL_TYPE_SINT16, FQL_TYPE_SINT32, FQL_TYPE_SINT64};
-
 /* A class with one property X, whose record starts at 5. */
 static buffer table_of(unsigned kind) {
     buffer table = {{0}, 0};
@@ -132,6 +129,40 @@ static buffer table_of(unsigned kind) {
     put_text(&table, kind, "X");
     return table;
 }
+
+/* Some moment of a minute: before the next minute, equal to itself at another offset, and undecided beside a moment or
+   a second of its own. */
+static void unknown_digits(void) {
+    buffer table = table_of(FQL_TYPE_DATETIME), instance = {{0}, 0}, other = {{0}, 0};
+    put_text(&instance, FQL_TYPE_DATETIME, "200510031122**.******+000");
+    const struct {
+        const char *right;
+        int less, equal;
+    } compared[] = {
+        {"'20051003112300.000000+000'", 1, 0},
+        {"'200510031222**.******+060'", 0, 1},
+        {"'20051003112200.000000+000'", 0, 0},
+        {"'20051003112259.******+000'", 0, 0},
+        {"'00000001******.******:000'", 0, 0},
+    };
+    for (size_t n = 0; n < sizeof compared / sizeof compared[0]; n++) {
+        const char *operators[] = {"<", "<=", "=", ">=", ">", "<>"};
+        int less = compared[n].less, equal = compared[n].equal;
+        const int holds[] = {less, less || equal, equal, equal, 0, !equal};
+        for (size_t k = 0; k < 6; k++) {
+            char query[64];
+            snprintf(query, sizeof query, "X %s %s", operators[k], compared[n].right);
+            EXPECT(is_answer(evaluate(query, &table, &instance), (uint64_t)holds[k], 1));
+        }
+    }
+    put_text(&other, FQL_TYPE_DATETIME, "200510031122**.******+00*");
+    EXPECT(is_refusal(check("X = '200510031122**.******+00*'", &table), FQL_DATETIME, 4));
+    EXPECT(is_failure(evaluate("X = '200510031122**.******+00*'", &table, &instance), FQL_DATETIME, 4));
+    EXPECT(is_failure(evaluate("X <> NULL", &table, &other), FQL_INSTANCE, 0));
+}
+
+static const unsigned integer_types[] = {FQL_TYPE_UINT8, FQL_TYPE_UINT16, FQL_TYPE_UINT32, FQL_TYPE_UINT64,
+                                         FQL_TYPE_SINT8, FQL_TYPE_SINT16, FQL_TYPE_SINT32, FQL_TYPE_SINT64};
 
 static fql_answer evaluate_integer(const char *query, unsigned type, uint64_t value) {
     buffer table = table_of(type), instance = {{0}, 0};
@@ -401,6 +432,7 @@ int main(void) {
     sample_answers();
     refusals_of_queries();
     refusals_of_tables_and_instances();
+    unknown_digits();
     kinds_of_integers();
     values_of_integers();
     integers_of_two_types();

@@ -31,7 +31,12 @@ enum fql_record {
    is the type, plus FQL_TYPE_ARRAY for an array, and its body is the name. An instance has a record for each property
    in the table's order: of the same kind, with the value as body, or NULL. An array's body is a record for each
    element: of the type without FQL_TYPE_ARRAY, or NULL. The last hex digit of an integer's type is the number of its
-   bytes; they are stored least byte first, and signed ones in two's complement. */
+   bytes; they are stored least byte first, and signed ones in two's complement. A datetime, in an instance or as a
+   literal, is a text: a timestamp, yyyymmddhhmmss.mmmmmm with a sign and three digits of minutes from UTC, or an
+   interval, ddddddddhhmmss.mmmmmm:000. `*` stands for a digit that isn't known, from the start of a field or from a
+   microsecond digit on up to the last microsecond digit. Such a datetime is less than another if the last moment that
+   it can be is before the other's first, and equal to it if both have the same first and last moment; where neither
+   holds, nor the reverse, `<>` alone is true. */
 enum fql_type {
     FQL_TYPE_BOOLEAN = 1,     /* one byte, 0 or 1 */
     FQL_TYPE_UINT8 = 0x0011,  /* unsigned integers of 1, 2, 4 and 8 bytes */
@@ -47,7 +52,7 @@ enum fql_type {
     FQL_TYPE_STRING = 6,      /* UTF-8 */
     FQL_TYPE_CHAR16 = 7,      /* 2 bytes, least byte first: a character up to U+FFFF, no surrogate */
     FQL_TYPE_OCTETS = 8,      /* any bytes */
-    FQL_TYPE_DATETIME = 9,    /* 25 bytes: a timestamp or an interval in the text form of DSP0004 */
+    FQL_TYPE_DATETIME = 9,    /* 25 bytes: a timestamp or an interval, see above */
     FQL_TYPE_REFERENCE = 10,  /* UTF-8 */
     FQL_TYPE_ARRAY = 0x0100   /* what an array adds to the type of its elements */
 };

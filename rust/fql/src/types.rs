@@ -31,7 +31,25 @@ pub const STRING: u16 = 6;
 pub const CHAR16: u16 = 7;
 /// Bytes of any number and content.
 pub const OCTETS: u16 = 8;
-/// A timestamp or an interval, in 25 bytes.
+/// A timestamp or an interval, in 25 bytes: `yyyymmddhhmmss.mmmmmm`, a sign and three digits of minutes from UTC, or
+/// `ddddddddhhmmss.mmmmmm:000`.
+///
+/// `*` stands for a digit that isn't known, from the start of a field or from any microsecond digit on up to the last
+/// microsecond digit. Such a datetime is compared by the lowest and the highest moment that it may stand for: it is less
+/// than another if its highest is before the other's lowest, and equal to it if both have the same ends. Of two that
+/// are neither equal nor in order `<>` alone holds.
+///
+/// ```
+/// use fql::{record, types, Verdict};
+///
+/// let table = [record::write(record::CLASS, b"P"), record::write(types::DATETIME, b"Since")].concat();
+/// let some_moment = record::write(types::DATETIME, b"200510031122**.******+000");
+/// let verdict = |query: &[u8]| fql::evaluate(query, &table, &some_moment).unwrap().verdict;
+///
+/// assert_eq!(verdict(b"Since < '20051003112300.000000+000'"), Verdict::Included);
+/// assert_eq!(verdict(b"Since <= '20051003112200.000000+000'"), Verdict::Excluded);
+/// assert_eq!(verdict(b"Since > '20051003112200.000000+000'"), Verdict::Excluded);
+/// ```
 pub const DATETIME: u16 = 9;
 /// A reference to an instance, in UTF-8.
 pub const REFERENCE: u16 = 10;

@@ -9,6 +9,11 @@
 //!   ends early is an instance with fewer records.
 //! - Values are `TRUE`, `-5`, `0.5`, `'text'` with the escapes of a query, `0x0102` for octets, `{3, NULL}` for an
 //!   array, and `NULL`. A real that isn't finite is written by its bits, as `0x7FF0000000000000`.
+//! - A datetime is written as a text: `'20051003112233.000000+000'` is a timestamp with its minutes from UTC, and
+//!   `'00000001112233.000000:000'` an interval of days and a time. `*` stands for a digit that isn't known: from the
+//!   start of a field, or from any microsecond digit, on up to the last microsecond digit, as in
+//!   `'200510031122**.******+000'` for some moment of that minute. The text is stored as it is; one that is no datetime
+//!   makes an instance that doesn't conform.
 //! - `record 0x0118 0A0B` is a record by its kind and body, in place of a property, a value or an instance;
 //!   `bytes 0A0B` are bytes that are no record, at the end of a table, an instance or the run. With `table` in place of
 //!   `class` a table starts without a class. So every file has a text, malformed ones included.

@@ -114,6 +114,45 @@ query, line 1, column 10:
     );
 }
 
+/// A minute, the hour that it is in, and a minute whose offset has stars.
+const TIMES: &str = "\
+class P
+    Since  datetime
+instance
+    Since = '200510031122**.******+000'
+instance
+    Since = '2005100311****.******+000'
+instance
+    Since = '200510031122**.******+***'
+";
+
+#[test]
+fn unknown_digits() {
+    let files = read(TIMES.as_bytes()).unwrap();
+    let explanation = explain(b"Since < '20051003112300.000000+000'", &files.table, &files.run);
+    assert!(explanation.accepted);
+    assert_eq!(
+        explanation.text,
+        "\
+accepted
+names Since
+1 included, 1 excluded, 1 failed
+instance 3, at byte 66 of the run: refused 31 at 0: the instance's record here isn't the one that the table asks for
+    asked for: Since  datetime
+    found:     Since = '200510031122**.******+***'
+"
+    );
+    assert_eq!(
+        refused("Since = NULL OR\nSince > '2005100311223*.******+000'", &files),
+        "\
+refused 25 at 24: this datetime literal is malformed
+query, line 2, column 9:
+    Since > '2005100311223*.******+000'
+            ^
+"
+    );
+}
+
 /// The lines after the first, which has number, place and cause.
 fn details(files: &Files) -> String {
     refused("On = TRUE", files).split_once('\n').unwrap().1.to_owned()

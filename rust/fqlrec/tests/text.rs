@@ -1,7 +1,7 @@
 //! Texts with the bytes that they stand for, and with what is wrong with them.
 
-use fql::record::INSTANCE;
-use fql::types::OCTETS;
+use fql::record::{ARRAY, INSTANCE, NULL};
+use fql::types::{DATETIME, OCTETS};
 use fqlrec::{read, show, Files};
 use reference::examples::setting::{sample, types};
 use reference::record::write;
@@ -172,6 +172,32 @@ fn of_text() {
     assert_eq!(value("char16", r"'\uFFFF'"), [0xff, 0xff]);
     let hidden = r"x = '\u00001B\u00FEFF\u002028\u000080é'";
     assert_eq!(shown("string", r"'\u001B\uFEFF\u2028\u0080é'"), hidden);
+}
+
+/// Stars for unknown digits are stored as they are typed, well placed or not.
+#[test]
+fn of_datetimes() {
+    let text = "\
+class P
+    Since   datetime
+    Starts  datetime[]
+instance
+    Since  = '200510031122**.******+000'
+    Starts = {'2005**********.******-060', NULL, '00000001******.******:000'}
+instance
+    Since  = '2005100311223*.******+***'
+    Starts = {}
+";
+    let files = read(text.as_bytes()).unwrap();
+    let starts = [
+        write(DATETIME, b"2005**********.******-060"),
+        write(NULL, b""),
+        write(DATETIME, b"00000001******.******:000"),
+    ];
+    let first = [write(DATETIME, b"200510031122**.******+000"), write(ARRAY | DATETIME, &starts.concat())].concat();
+    let second = [write(DATETIME, b"2005100311223*.******+***"), write(ARRAY | DATETIME, b"")].concat();
+    assert_eq!(files.run, [instance(&first), instance(&second)].concat());
+    assert_eq!(show(&files), text);
 }
 
 #[test]
