@@ -35,11 +35,12 @@ fn print() {
 }
 
 /// The pattern's reader calls itself for each alternative, item and group, so these go deepest.
-fn filters() -> [(&'static str, String); 5] {
+fn filters() -> [(&'static str, String); 6] {
     let groups = format!("Name LIKE '{}x{}'", "(".repeat(8), ")*".repeat(8));
     [
         ("comparisons, ANY, an array literal", "Temp > 0 AND ANY Dev = 14 OR Dev = {3,14}".into()),
         ("a datetime", "Since = '20051003112233.000000+000'".into()),
+        ("a datetime with unknown digits", "Since = '200510********.******+000'".into()),
         ("a pattern of 8 groups inside one another", groups),
         ("a pattern of 60 symbols", format!("Name LIKE '{}'", "x".repeat(60))),
         ("a pattern of 256 alternatives", format!("Name LIKE '{}'", "|".repeat(255))),
