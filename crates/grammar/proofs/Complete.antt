@@ -1,6 +1,6 @@
 -- What fits property-comp is read as a comparison, but for the limit of 32 elements.
 use Prim.Native.Nat.{ℕ, zero, suc, _+_, _≤_, _<_}
-use mathlib.Core.Path.{_≡_, refl, ap, _∙_}
+use mathlib.Core.Path.{_≡_, refl, ap}
 use mathlib.Core.Bool.{Bool, true, false, not, _&&_, false≢true}
 use native.Mathlib.Omega.{arith}
 use lib.Dec.{eqb}
@@ -18,7 +18,7 @@ use Rattle.terminal.specs.declared.quantifier.Quantifier.{Quantifier}
 use Rattle.terminal.specs.declared.quantifier.Quantifier.the-variants.{Single, Any, Every}
 use Rattle.terminal.specs.declared.operator.Comparing.{Comparing}
 use Rattle.terminal.specs.declared.operator.Comparing.the-variants.{By, NoOperator}
-use Rattle.terminal.specs.Terminal.{same, code, word, literal, literalKind, comparing, comparingKind, quantifying, equality}
+use Rattle.terminal.specs.Terminal.{same, code, literal, literalKind, comparing, comparingKind, quantifying, equality}
 use Rattle.terminal.proofs.KindCodes.{kind-is, other}
 use Rattle.syntax.specs.declared.path.Path.{Path}
 use Rattle.syntax.specs.declared.path.PathResult.{PathResult}
@@ -45,6 +45,7 @@ use Rattle.syntax.specs.Property.{dotted, oneMore, firstName}
 use Rattle.syntax.specs.Comparison.{single, plain}
 use Rattle.grammar.specs.Abnf.{Fits, one, join, left, right, none, just, stop, more, many, then, is, operates, dot-name, property, in-brackets, element, array-op, like-op, equates, scalar-literal, array-literal, like-pattern, property-comp}
 use Rattle.grammar.specs.Limits.{repeats, elementCount, elementsIn}
+use Rattle.syntax.proofs.Room.{up, Roomy, room}
 use Rattle.grammar.proofs.Sound.{Ends}
 
 -- an operator is neither a dot nor a bracket
@@ -122,15 +123,7 @@ word-no-operator : (t : Token) (w : Reserved) → same t (Word w) ≡ true → c
 unfolding comparing
 word-no-operator t w a = ap comparingKind (kind-is t (Word w) a)
 
-unfoldable pub up : ℕ → ℕ → ℕ
-up zero n = n
-up (suc k) n = suc (up k n)
-
 module _ (s : Scan) where
-  -- a limit on names that is never reached
-  abbrev pub Roomy : Type 0
-  Roomy = (p : Path) (t : Token) → dotted (suc (s .size)) s p t ≡ dotted (s .size) s p t
-
   -- names are read to the end, however many more are allowed
   dots-end : (n : ℕ) (p : Path) (t : Token) → same t (Symbol Dot) ≡ false → Ends t (dotted n s p t)
   unfolding dotted Ends
@@ -144,30 +137,9 @@ module _ (s : Scan) where
       let i = dots-read (s .next (s .next t)) u f d (oneMore p (s .next t)) in
       (suc (i .0), λ m. rw (a, dotted) (rw (b, dotted) (i .1 m)))
 
-  word-cong : (a b : ℕ) (p : Path) (t : Token) (d : Bool) → ((x : Path) (y : Token) → dotted a s x y ≡ dotted b s x y)
-      → _≡_ {A = PathResult} (elim d [ true ↦ dotted a s (oneMore p (s .next t)) (s .next (s .next t)) | false ↦ NoPath (s .next t .start) ])
-      (elim d [ true ↦ dotted b s (oneMore p (s .next t)) (s .next (s .next t)) | false ↦ NoPath (s .next t .start) ])
-  word-cong a b p t true e = e (oneMore p (s .next t)) (s .next (s .next t))
-  word-cong a b p t false e = refl
-
-  dot-cong : (a b : ℕ) (p : Path) (t : Token) (d : Bool) → ((x : Path) (y : Token) → dotted a s x y ≡ dotted b s x y)
-      → _≡_ {A = PathResult} (elim d [ true ↦ elim (word (s .next t)) [ true ↦ dotted a s (oneMore p (s .next t)) (s .next (s .next t)) | false ↦ NoPath (s .next t .start) ] | false ↦ HasPath p t ])
-      (elim d [ true ↦ elim (word (s .next t)) [ true ↦ dotted b s (oneMore p (s .next t)) (s .next (s .next t)) | false ↦ NoPath (s .next t .start) ] | false ↦ HasPath p t ])
-  dot-cong a b p t true e = word-cong a b p t (word (s .next t)) e
-  dot-cong a b p t false e = refl
-
-  step-cong : (a b : ℕ) → ((x : Path) (y : Token) → dotted a s x y ≡ dotted b s x y) → (p : Path) (t : Token) → dotted (suc a) s p t ≡ dotted (suc b) s p t
-  unfolding dotted
-  step-cong a b e p t = dot-cong a b p t (same t (Symbol Dot)) e
-
-  module _ (roomy : Roomy) where
-    pub room : (k : ℕ) (p : Path) (t : Token) → dotted (up k (s .size)) s p t ≡ dotted (s .size) s p t
-    unfolding up
-    room zero p t = refl
-    room (suc k) p t = step-cong (up k (s .size)) (s .size) (room k) p t ∙ roomy p t
-
+  module _ (roomy : Roomy s) where
     names-read : (t u : Token) → Fits s (many dot-name) t u → same u (Symbol Dot) ≡ false → (p : Path) → Ends u (dotted (s .size) s p t)
-    names-read t u f d p = let i = dots-read t u f d p in rw (room (i .0) p t) at (i .1 (s .size))
+    names-read t u f d p = let i = dots-read t u f d p in rw (room s roomy (i .0) p t) at (i .1 (s .size))
 
     pub property-read : (t u : Token) → Fits s property t u → same u (Symbol Dot) ≡ false → Ends u (GP.property s t)
     unfolding GP.property

@@ -27,8 +27,8 @@ use Rattle.query_text.specs.Query as GQ
 use Rattle.query_text.specs.Query.{Query, bad, good, lastJoin}
 use Rattle.grammar.specs.Abnf.{Fits, one, join, left, right, none, just, stop, more, many, then, is, array-op, property, element, bool-op, property-comp, fql-expr, bracketed, fql, Derives}
 use Rattle.grammar.specs.Limits.{repeats, elementsIn, exprCount, groupsCount, comparisonCount, ShortIn, ShortExpr, ShortGroups, Short}
-use Rattle.grammar.proofs.Complete.{Roomy, ReadsComparison, comparison-read}
-use Rattle.grammar.proofs.Room.{roomy}
+use Rattle.syntax.proofs.Room.{Roomy, roomy}
+use Rattle.grammar.proofs.Complete.{ReadsComparison, comparison-read}
 
 module _ (s : Scan) where
   -- what a comparison starts with

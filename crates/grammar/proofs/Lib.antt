@@ -1,11 +1,7 @@
-pub mod TokenBounds
-pub mod Room
 pub mod Sound
 pub mod SoundComp
 pub mod SoundQuery
 pub mod Complete
 pub mod CompleteQuery
 pub mod Exact
-pub mod Local
-pub mod LocalComparison
 pub mod Place

@@ -2,3 +2,4 @@ pub mod Sides
 pub mod Named
 pub mod Meeting
 pub mod Judging
+pub mod Local

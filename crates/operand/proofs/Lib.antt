@@ -1,3 +1,4 @@
 pub mod Laws
 pub mod Examples
 pub mod Exclusive
+pub mod Local

@@ -1,6 +1,6 @@
 -- Two texts alike for a while: the same bytes from a place in each, up to places at which each has a byte that ends every word and number
 -- (whitespace, `)`) or ends itself. Places that are as far on are those i and j with i + b ≡ j + a.
-use Prim.Native.Nat.{ℕ, _+_, _-_, _≤_, _<_}
+use Prim.Native.Nat.{ℕ, zero, suc, _+_, _-_, _≤_, _<_}
 use mathlib.Core.Path.{_≡_, refl, sym, ap, _∙_}
 use mathlib.Core.List.{List, _++_}
 use mathlib.Core.Bool.{Bool, true, false, _||_, true≢false, false≢true}
@@ -9,14 +9,15 @@ use lib.ListN.{length, getD, drop, length-drop, length-append, List·getD-append
 use lib.Seq.{ext-getD, getD-take, getD-drop, length-take-le, getD-append-add}
 use Rattle.base.proofs.Lists.{byte-past}
 use lib.Dec.{ltb, eqb}
-use borrow.Author.Tests.{ltb-true, ltb-false, eqb-true}
+use borrow.Author.Tests.{ltb-true, ltb-false, le-ltb, eqb-true}
 use Rattle.base.specs.Range.{within}
 use Rattle.base.specs.Part.{part, byteAt}
+use Rattle.base.specs.Digit.{digitOf, valueOf}
 use Rattle.record.specs.Name.{letter, nameByte}
 use Rattle.scan.specs.declared.Class.{Class}
-use Rattle.scan.specs.declared.Class.the-variants.{White, Word}
+use Rattle.scan.specs.declared.Class.the-variants.{White, Word, Digit}
 use Rattle.scan.specs.Class.{white, inClass, run}
-use Rattle.scan.proofs.Runs.{run-from, run-holds, run-stops, run-longest, word-no-zero, white-no-zero}
+use Rattle.scan.proofs.Runs.{run-from, run-holds, run-stops, run-longest, white-no-zero}
 
 -- TAB, CR, LF, space, `)`; 0 is read past the end
 unfoldable pub stop : ℕ → Bool
@@ -40,6 +41,18 @@ at-stops P p0 p41 p9 p13 p10 p32 b h = go (eqb b 0) refl (eqb b 41) refl (eqb b 
     go false e false f false g false i false j true k h = is 32 p32 k
     go false e false f false g false i false j false k h = absurd (false≢true h)
 
+-- a test that no stop passes
+abbrev pub NoStop : (ℕ → Bool) → Type 0
+NoStop p = (x : ℕ) → stop x ≡ true → p x ≡ false
+
+pub word-stop : NoStop (inClass Word)
+unfolding inClass nameByte letter within
+word-stop = at-stops (λ (x : ℕ). inClass Word x ≡ false) refl refl refl refl refl refl
+
+pub digit-stop : (base : ℕ) → base ≤ 16 → NoStop (inClass (Digit base))
+unfolding inClass digitOf within
+digit-stop base h = let z = le-ltb 16 base h in at-stops (λ (x : ℕ). inClass (Digit base) x ≡ false) z z z z z z
+
 pub record Alike (q r : List ℕ) (a b k l : ℕ) : Type 0 where
   pub starts : a ≤ k
   pub ends : k + b ≡ l + a
@@ -61,7 +74,7 @@ turn A =
       same = λ i j h k e. sym (A .same j i (omega (arith, A .starts, A .ends)) (omega (arith, A .starts, A .ends)) (omega arith));
     }
 
-module _ (q r : List ℕ) (a b k l : ℕ) (A : Alike q r a b k l) where
+module _ {q r : List ℕ} {a b k l : ℕ} (A : Alike q r a b k l) where
   -- a run that ends before the stop, or whose class the stop is not of
   pub run-alike : (c : Class) → inClass c 0 ≡ false → (i j : ℕ) → a ≤ i → i + b ≡ j + a → run c q i ≤ k
       → (run c q i ≡ k → inClass c (byteAt r l) ≡ false) → run c q i + b ≡ run c r j + a
@@ -97,20 +110,59 @@ module _ (q r : List ℕ) (a b k l : ℕ) (A : Alike q r a b k l) where
   pub white-alike : (i j : ℕ) → a ≤ i → i + b ≡ j + a → run White q i < k → run White q i + b ≡ run White r j + a
   white-alike i j h e w = run-alike White white-no-zero i j h e (omega arith) (λ z. absurd (omega arith))
 
-  -- a word
-  word-stop : (b : ℕ) → stop b ≡ true → inClass Word b ≡ false
-  unfolding inClass nameByte letter within
-  word-stop = at-stops (λ (b : ℕ). inClass Word b ≡ false) refl refl refl refl refl refl
+  -- a test that no stop passes has the same answer up to the stop, and where it passes the stop is further on
+  module _ (p : ℕ → Bool) (none : NoStop p) where
+    pub test-alike : (i j : ℕ) → a ≤ i → i ≤ k → i + b ≡ j + a → p (byteAt q i) ≡ p (byteAt r j)
+    test-alike i j s w x = go (ltb i k) refl
+      where
+        go : (t : Bool) → ltb i k ≡ t → p (byteAt q i) ≡ p (byteAt r j)
+        go true e = ap p (A .same i j s (ltb-true i k e) x)
+        go false e =
+            let y : i ≡ k = omega (arith, ltb-false i k e) in
+            let z : j ≡ l = omega (arith, A .ends) in
+            rw (y, z) (none (byteAt q k) (A .first-stop) ∙ sym (none (byteAt r l) (A .second-stop)))
 
+    pub before-stop : (i : ℕ) → i ≤ k → p (byteAt q i) ≡ true → i < k
+    before-stop i w h = go (ltb i k) refl
+      where
+        go : (t : Bool) → ltb i k ≡ t → i < k
+        go true e = ltb-true i k e
+        go false e =
+            let y : i ≡ k = omega (arith, ltb-false i k e) in
+            absurd (true≢false (sym h ∙ ap (λ (n : ℕ). p (byteAt q n)) y ∙ none (byteAt q k) (A .first-stop)))
+
+  -- a run of a class that no stop is of
+  module _ (c : Class) (none : NoStop (inClass c)) where
+    pub class-within : (i : ℕ) → i ≤ k → run c q i ≤ k
+    class-within i w = go (ltb k (run c q i)) refl
+      where
+        go : (t : Bool) → ltb k (run c q i) ≡ t → run c q i ≤ k
+        go true t = absurd (true≢false (sym (run-holds c q i k w (ltb-true k (run c q i) t)) ∙ none (byteAt q k) (A .first-stop)))
+        go false t = ltb-false k (run c q i) t
+
+    pub class-alike : (i j : ℕ) → a ≤ i → i ≤ k → i + b ≡ j + a → run c q i + b ≡ run c r j + a
+    unfolding stop
+    class-alike i j h w e = run-alike c (none 0 refl) i j h e (class-within i w) (λ z. none (byteAt r l) (A .second-stop))
+
+  -- a word
   pub word-within : (i : ℕ) → i ≤ k → run Word q i ≤ k
-  word-within i w = go (ltb k (run Word q i)) refl
-    where
-      go : (t : Bool) → ltb k (run Word q i) ≡ t → run Word q i ≤ k
-      go true t = absurd (true≢false (sym (run-holds Word q i k w (ltb-true k (run Word q i) t)) ∙ word-stop (byteAt q k) (A .first-stop)))
-      go false t = ltb-false k (run Word q i) t
+  word-within = class-within Word word-stop
 
   pub word-alike : (i j : ℕ) → a ≤ i → i ≤ k → i + b ≡ j + a → run Word q i + b ≡ run Word r j + a
-  word-alike i j h w e = run-alike Word word-no-zero i j h e (word-within i w) (λ z. word-stop (byteAt r l) (A .second-stop))
+  word-alike = class-alike Word word-stop
+
+  -- digits, and the number that they make
+  pub digits-within : (base : ℕ) → base ≤ 16 → (i : ℕ) → i ≤ k → run (Digit base) q i ≤ k
+  digits-within base h = class-within (Digit base) (digit-stop base h)
+
+  pub digits-alike : (base : ℕ) → base ≤ 16 → (i j : ℕ) → a ≤ i → i ≤ k → i + b ≡ j + a → run (Digit base) q i + b ≡ run (Digit base) r j + a
+  digits-alike base h = class-alike (Digit base) (digit-stop base h)
+
+  pub value-alike : (base v i j n : ℕ) → a ≤ i → i + n ≤ k → i + b ≡ j + a → valueOf base v q i n ≡ valueOf base v r j n
+  unfolding valueOf
+  value-alike base v i j zero s w x = refl
+  value-alike base v i j (suc n) s w x =
+      rw (A .same (i + n) (j + n) (omega arith) (omega arith) (omega arith), value-alike base v i j n s (omega arith) x) refl
 
   -- parts before the stop
   pub part-alike : (i j n : ℕ) → a ≤ i → i + n ≤ k → i + b ≡ j + a → part q i n ≡ part r j n

@@ -89,7 +89,7 @@ module _ (q : List ℕ) where
       let c = low-byte q a w (omega arith) in
       (b ∙ z, omega (arith, f .ends, c .0))
 
-  terminal : {a e k : ℕ} → k < 0x80 → OneOf q (λ (v : ℕ). eqb v k) a e → (byteAt q a ≡ k) × (e ≡ a + 1)
+  pub terminal : {a e k : ℕ} → k < 0x80 → OneOf q (λ (v : ℕ). eqb v k) a e → (byteAt q a ≡ k) × (e ≡ a + 1)
   terminal {a} {e} {k} h f = fits-byte h f (eqb-true (scalarAt q a) k (f .belongs))
 
   -- hex digits: the run by its definition
@@ -211,7 +211,7 @@ module _ (q : List ℕ) where
       (λ u. raw-fits at t u))
 
   -- what fits the grammar is what stands there by its definition
-  is-close : {at e : ℕ} → Fits q single-quote at e → (charAt q at ≡ Close) × (e ≡ at + 1)
+  pub is-close : {at e : ℕ} → Fits q single-quote at e → (charAt q at ≡ Close) × (e ≡ at + 1)
   unfolding charAt
   is-close (one f) = let z = terminal (omega arith) f in (rw (z .0), z .1)
 

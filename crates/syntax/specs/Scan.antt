@@ -12,7 +12,7 @@ use Rattle.syntax.specs.declared.fault.Cause.the-variants.{Grammar, Limi
 use Rattle.syntax.specs.declared.fault.Fault.{Fault}
 
 -- what the grammar is read from: the token after another, which tokens are unsigned integers, and a number of names that no path has
--- (for the tokens of a text the law `roomy` of grammar/proofs/Room says so)
+-- (for the tokens of a text the law `roomy` of proofs/Room says so)
 pub record Scan : Type 0 where
   pub next : Token → Token
   pub unsigned : Token → Bool

@@ -1,1 +1,2 @@
 pub mod KindCodes
+pub mod Inside

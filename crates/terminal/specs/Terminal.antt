@@ -155,3 +155,21 @@ opening t = same t Name || (same t (Word Not) || (same t (Word Any) || same t (W
 -- index = unsigned-integer: a decimal number with no sign
 unfoldable pub unsigned : List ℕ → Token → Bool
 unsigned q t = same t (Number Decimal) && inClass (Digit 10) (byteAt q (t .start))
+
+-- a token that may stand in an fql-expr, as far as its kind tells: all but ")", the end and what is no token
+abbrev pub inside : TokenKind → Bool
+inside End = false
+inside NoToken = false
+inside Name = true
+inside (Word w) = true
+inside (Number f) = true
+inside Text = true
+inside (Compare o) = true
+inside (Symbol Open) = true
+inside (Symbol Close) = false
+inside (Symbol OpenIndex) = true
+inside (Symbol CloseIndex) = true
+inside (Symbol OpenList) = true
+inside (Symbol CloseList) = true
+inside (Symbol Comma) = true
+inside (Symbol Dot) = true

@@ -4,4 +4,6 @@ pub mod Maximal
 pub mod Examples
 pub mod Steps
 pub mod Local
+pub mod Stands
+pub mod Bounds
 pub mod Calls

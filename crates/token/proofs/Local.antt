@@ -5,8 +5,7 @@ use mathlib.Core.Path.{_≡_, refl, sym, ap, _∙_}
 use mathlib.Core.List.{List, [], _∷_, _++_, append-nil}
 use mathlib.Core.Bool.{Bool, true, false, _&&_, true≢false, false≢true}
 use native.Mathlib.Omega.{arith}
-use lib.ListN.{length, getD, length-append}
-use lib.Seq.{getD-take, getD-drop}
+use lib.ListN.{length, length-append}
 use lib.Dec.{ltb, leb, eqb}
 use borrow.Author.Tests.{ltb-true, ltb-false, leb-true, leb-false, eqb-true, eqb-false, lt-ltb, le-ltb, lt-leb, le-leb, eq-eqb, ne-eqb}
 use Rattle.base.specs.Pick.{pick}
@@ -34,13 +33,20 @@ use Rattle.token.specs.Grammar.{Terminal, terminals, Stands, decimal, bi
 use Rattle.token.proofs.Spans.{no-end}
 use Rattle.token.proofs.Steps.{longest-spans, moves-on, at-spans, after-spans}
 use Rattle.token.proofs.Laws.{from-spans}
-use Rattle.token.proofs.Maximal.{All, no-more, and, of-all, longest-token}
+use Rattle.token.proofs.Maximal.{All, no-more, and, of-all, byte-of, longest-token}
 
 -- the same token, as far on from b as from a
 pub record Moved (a b : ℕ) (t u : Token) : Type 0 where
   pub kind : t .kind ≡ u .kind
   pub start : t .start + b ≡ u .start + a
   pub end : t .end + b ≡ u .end + a
+
+-- from a on and before the stop at k
+pub record Placed (a b k : ℕ) (t u : Token) : Type 0 where
+  pub moved : Moved a b t u
+  pub from : a ≤ t .start
+  pub moves : t .start < t .end
+  pub short : t .end ≤ k
 
 module _ (a b : ℕ) where
   ltb-moved : (s e s' e' : ℕ) → s + b ≡ s' + a → e + b ≡ e' + a → ltb s e ≡ ltb s' e'
@@ -50,7 +56,7 @@ module _ (a b : ℕ) where
       go true h = let l = ltb-true s e h in sym (lt-ltb s' e' (omega arith))
       go false h = let l = ltb-false s e h in sym (le-ltb s' e' (omega arith))
 
-  eqb-moved : (s e s' e' : ℕ) → s + b ≡ s' + a → e + b ≡ e' + a → eqb s e ≡ eqb s' e'
+  pub eqb-moved : (s e s' e' : ℕ) → s + b ≡ s' + a → e + b ≡ e' + a → eqb s e ≡ eqb s' e'
   eqb-moved s e s' e' x y = go (eqb s e) refl
     where
       go : (t : Bool) → eqb s e ≡ t → t ≡ eqb s' e'
@@ -84,6 +90,15 @@ module _ (a b : ℕ) where
       pick-moved ((c && wordOrNumber (t .kind)) && eqb (t .start) e) ((c' && wordOrNumber (u .kind)) && eqb (u .start) e')
       (rw (z, m .kind, eqb-moved (t .start) e (u .start) e' (m .start) y)) (token-moved refl (m .start) (m .start)) m
 
+-- what is a token after another is the token there
+pub apart-kept : (c : Bool) (e : ℕ) (t : Token) → isToken (apart c e t .kind) ≡ true → apart c e t ≡ t
+unfolding apart
+apart-kept c e t y = go ((c && wordOrNumber (t .kind)) && eqb (t .start) e) y
+  where
+    go : (d : Bool) → isToken (pick d (token NoToken (t .start) (t .start)) t .kind) ≡ true → pick d (token NoToken (t .start) (t .start)) t ≡ t
+    go true y = no-end y
+    go false y = refl
+
 -- a second byte that is a stop makes no pair
 pair-stop : (b c : ℕ) → stop c ≡ true → pairKind b c ≡ NoToken
 unfolding pairKind
@@ -112,10 +127,7 @@ only-string q s z h (word l f m g) = false≢true (rw z at l)
 only-string q s z h (symbol {t = t} i p) =
     let u = of-all i unquoted in
     let y : s + 0 ≡ s = omega arith in
-    u .other (ap (λ (l : List ℕ). byteAt l 0) (sym p) ∙ first (length t) (u .some) ∙ ap (byteAt q) y ∙ z)
-  where
-    first : (n : ℕ) → 0 < n → getD (part q s n) 0 0 ≡ byteAt q (s + 0)
-    first n h = rw (getD-take, getD-drop)
+    u .other (ap (λ (l : List ℕ). byteAt l 0) (sym p) ∙ byte-of q s (length t) 0 (u .some) ∙ ap (byteAt q) y ∙ z)
 
 module _ {q r : List ℕ} {a b k l : ℕ} (A : Alike q r a b k l) where
   -- the longest token at a place, if the strings there are alike
@@ -148,11 +160,11 @@ module _ {q r : List ℕ} {a b k l : ℕ} (A : Alike q r a b k l) where
 
       words : Moved a b (wordToken q i) (wordToken r j)
       words =
-          let e = word-alike q r a b k l A i j s (omega arith) x in
-          let f = word-within q r a b k l A i (omega arith) in
+          let e = word-alike A i j s (omega arith) x in
+          let f = word-within A i (omega arith) in
           let g = run-from Class.Word q i in
           let z : run Class.Word r j - j ≡ run Class.Word q i - i = omega arith in
-          let p : part q i (run Class.Word q i - i) ≡ part r j (run Class.Word r j - j) = rw z (part-alike q r a b k l A i j (run Class.Word q i - i) s (omega arith) x) in
+          let p : part q i (run Class.Word q i - i) ≡ part r j (run Class.Word r j - j) = rw z (part-alike A i j (run Class.Word q i - i) s (omega arith) x) in
           pick-moved a b (letter (byteAt q i)) (letter (byteAt r j)) (ap letter here)
           (fitted-moved a b (wordKind (part q i (run Class.Word q i - i))) (wordKind (part r j (run Class.Word r j - j))) i (run Class.Word q i) j (run Class.Word r j) (ap wordKind p) x e)
           (token-moved a b refl x x)
@@ -193,19 +205,11 @@ module _ {q r : List ℕ} {a b k l : ℕ} (A : Alike q r a b k l) where
           let c = longest-spans q s₁ (omega arith) .begins in
           let f = run-from Class.White q i in
           let before : s₁ < k = omega arith in
-          let v = white-alike q r a b k l A i j s x before in
+          let v = white-alike A i j s x before in
           let n = A .ends in
           let o = A .second-within in
           rw (lt-leb (length r) (run Class.White r j) (omega arith))
           (longest-moved s₁ (run Class.White r j) (omega arith) before v (strings-alike s₁ (run Class.White r j) (omega arith) before v y h))
-
-  apart-kept : (c : Bool) (e : ℕ) (t : Token) → isToken (apart c e t .kind) ≡ true → apart c e t ≡ t
-  unfolding apart
-  apart-kept c e t y = go ((c && wordOrNumber (t .kind)) && eqb (t .start) e) y
-    where
-      go : (d : Bool) → isToken (pick d (token NoToken (t .start) (t .start)) t .kind) ≡ true → pick d (token NoToken (t .start) (t .start)) t ≡ t
-      go true y = no-end y
-      go false y = refl
 
   -- the token after another that ends before the stop
   pub after-local : {t u : Token} → Moved a b t u → a ≤ t .end → t .end ≤ k → isToken (tokenAfter q t .kind) ≡ true → tokenAfter q t .end ≤ k
@@ -215,6 +219,16 @@ module _ {q r : List ℕ} {a b k l : ℕ} (A : Alike q r a b k l) where
       let z = apart-kept (wordOrNumber (t .kind)) (t .end) (tokenAt q (t .end)) y in
       apart-moved a b (wordOrNumber (t .kind)) (wordOrNumber (u .kind)) (t .end) (u .end) (ap wordOrNumber (m .kind)) (m .end)
       (at-local (t .end) (u .end) s w (m .end) (ap (λ (x : Token). isToken (x .kind)) (sym z) ∙ y) (rw (ap (λ (x : Token). x .end) z) at h))
+
+  pub after-placed : {t u : Token} → Placed a b k t u → isToken (tokenAfter q t .kind) ≡ true → tokenAfter q t .end ≤ k → Placed a b k (tokenAfter q t) (tokenAfter r u)
+  after-placed {t} {u} p y h =
+      let w = after-spans q t (omega (arith, p .short, A .first-within)) in
+      record {
+        moved = after-local (p .moved) (omega (arith, p .from, p .moves)) (p .short) y h;
+        from = omega (arith, w .begins, p .from, p .moves);
+        moves = moves-on w y;
+        short = h;
+      }
 
   -- texts that are alike to their ends
   module _ (first : length q ≡ k) (second : length r ≡ l) where
@@ -243,7 +257,7 @@ module _ {q r : List ℕ} {a b k l : ℕ} (A : Alike q r a b k l) where
         at-end z = rw (← byte-past r l (omega (arith, second))) white-no-zero
 
         v : run Class.White q i + b ≡ run Class.White r j + a
-        v = run-alike q r a b k l A Class.White white-no-zero i j s x (rw first at (run-within Class.White q i (omega (arith, first)))) at-end
+        v = run-alike A Class.White white-no-zero i j s x (rw first at (run-within Class.White q i (omega (arith, first)))) at-end
 
         go : (t : Bool) → leb (length q) (run Class.White q i) ≡ t → Moved a b (pick t (token End (run Class.White q i) (run Class.White q i)) (longestAt q (run Class.White q i))) (tokenAt r j)
         go true e =

@@ -19,6 +19,7 @@ use Rattle.scan.specs.Class.{run, inClass}
 use Rattle.scan.specs.declared.Class.the-variants as Class
 use Rattle.scan.proofs.Runs.{run-holds, run-longest, word-no-zero}
 use Rattle.string_literal.specs.Text.{stringLiteral}
+use Rattle.string_literal.proofs.Bounds.{both-ways}
 use Rattle.string_literal.proofs.Fit.{string-fits, fits-string}
 use Rattle.numeral.specs.Numeral.{decimalLiteral, binaryLiteral, hexLiteral, realLiteral}
 use Rattle.numeral.proofs.Longest.{decimal-longest, binary-longest, hex-longest, real-longest}
@@ -70,11 +71,6 @@ unfolding singleKind pairKind isToken
 all-right =
     and (right refl refl) (and (right refl refl) (and (right refl refl) (and (right refl refl) (and (right refl refl) (and (right refl refl) (and (right refl refl)
     (and (right refl refl) (and (right refl refl) (and (right refl refl) (and (right refl refl) (and (right refl refl) (and (right refl refl) (and (right refl refl) no-more)))))))))))))
-
--- a property of both choices is one of the choice
-both-ways : {A : Type 0} (P : A → Type 0) (t : Bool) (a b : A) → (t ≡ true → P a) → (t ≡ false → P b) → P (pick t a b)
-both-ways P true a b f g = f refl
-both-ways P false a b f g = g refl
 
 -- the text at a place starts with one or two bytes
 one-byte : (q : List ℕ) (s b : ℕ) → b ≡ byteAt q s → s < length q → part q s 1 ≡ b ∷ []
@@ -232,8 +228,11 @@ module _ (q : List ℕ) (s : ℕ) where
       let w : run Class.Word q s ≤ wordToken q s .end = rw h (reaches (wordKind (part q s (run Class.Word q s - s))) s (run Class.Word q s)) in
       omega (arith, word-in)
 
-  byte-of : (n i : ℕ) → i < n → getD (part q s n) i 0 ≡ byteAt q (s + i)
+  pub byte-of : (n i : ℕ) → i < n → getD (part q s n) i 0 ≡ byteAt q (s + i)
   byte-of n i h = rw (getD-take, getD-drop)
+
+  pub first-byte : (n b : ℕ) (l : List ℕ) → 0 < n → part q s n ≡ b ∷ l → byteAt q s ≡ b
+  first-byte n b l h p = let z : s + 0 ≡ s = omega arith in ap (byteAt q) (sym z) ∙ sym (byte-of n 0 h) ∙ ap (λ (l : List ℕ). getD l 0 0) p
 
   symbol-reaches : (k : TokenKind) (n : ℕ) → isToken k ≡ true → s + n ≤ symbolOf k s n .end
   unfolding symbolOf
@@ -243,13 +242,11 @@ module _ (q : List ℕ) (s : ℕ) where
   unfolding symbolToken
   symbol-no-longer [] e y p = no-end (rw (← e) at y)
   symbol-no-longer (b ∷ []) e y p =
-      let z : s + 0 ≡ s = omega arith in
-      let f : byteAt q s ≡ b = ap (byteAt q) (sym z) ∙ sym (byte-of 1 0 (omega arith)) ∙ ap (λ (l : List ℕ). getD l 0 0) p in
+      let f = first-byte 1 b [] (omega arith) p in
       let w = symbol-reaches (singleKind (byteAt q s)) 1 (rw (f, e) y) in
       omega (arith, symbol-in, longer-second (symbolOf (pairKind (byteAt q s) (byteAt q (s + 1))) s 2) (symbolOf (singleKind (byteAt q s)) s 1))
   symbol-no-longer (b ∷ c ∷ []) e y p =
-      let z : s + 0 ≡ s = omega arith in
-      let f : byteAt q s ≡ b = ap (byteAt q) (sym z) ∙ sym (byte-of 2 0 (omega arith)) ∙ ap (λ (l : List ℕ). getD l 0 0) p in
+      let f = first-byte 2 b (c ∷ []) (omega arith) p in
       let g : byteAt q (s + 1) ≡ c = sym (byte-of 2 1 (omega arith)) ∙ ap (λ (l : List ℕ). getD l 1 0) p in
       let w = symbol-reaches (pairKind (byteAt q s) (byteAt q (s + 1))) 2 (rw (f, g, e) y) in
       omega (arith, symbol-in, longer-first (symbolOf (pairKind (byteAt q s) (byteAt q (s + 1))) s 2) (symbolOf (singleKind (byteAt q s)) s 1))

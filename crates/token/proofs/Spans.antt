@@ -11,6 +11,7 @@ use Rattle.base.specs.Pick.{pick}
 use Rattle.record.specs.Name.{sameName}
 use Rattle.base.specs.Part.{byteAt}
 use Rattle.base.proofs.Lists.{byte-within}
+use Rattle.token.specs.declared.Reserved.{Reserved}
 use Rattle.token.specs.declared.Reserved.the-variants.{And, Any, Every, False, Like, Not, Null, Or, True}
 use Rattle.token.specs.declared.TokenKind.{TokenKind}
 use Rattle.token.specs.declared.TokenKind.the-variants.{NoToken, Name, Word}
@@ -46,22 +47,27 @@ symbol-spans n s w k l h f = go (isToken k) refl
     go true e = record { begins = refl; ends = omega arith; within = f e; moves = e ∙ sym (lt-ltb s (s + w) (omega arith)) }
     go false e = none-spans n s h
 
-pick-some : (t : Bool) (a b : TokenKind) → isToken a ≡ true → isToken b ≡ true → isToken (pick t a b) ≡ true
-pick-some true a b f g = f
-pick-some false a b f g = g
+-- a word is a name or reserved
+pub word-is : (P : TokenKind → Type 0) → P Name → ((w : Reserved) → P (Word w)) → (w : List ℕ) → P (wordKind w)
+unfolding wordKind
+word-is P n f w =
+    by (sameName w (bytes "AND")) And _
+    (by (sameName w (bytes "ANY")) Any _
+    (by (sameName w (bytes "EVERY")) Every _
+    (by (sameName w (bytes "FALSE")) False _
+    (by (sameName w (bytes "LIKE")) Like _
+    (by (sameName w (bytes "NOT")) Not _
+    (by (sameName w (bytes "NULL")) Null _
+    (by (sameName w (bytes "OR")) Or _
+    (by (sameName w (bytes "TRUE")) True Name n))))))))
+  where
+    by : (t : Bool) (r : Reserved) (k : TokenKind) → P k → P (pick t (Word r) k)
+    by true r k p = f r
+    by false r k p = p
 
 pub word-some : (w : List ℕ) → isToken (wordKind w) ≡ true
-unfolding wordKind isToken
-word-some w =
-    pick-some (sameName w (bytes "AND")) (Word And) _ refl
-    (pick-some (sameName w (bytes "ANY")) (Word Any) _ refl
-    (pick-some (sameName w (bytes "EVERY")) (Word Every) _ refl
-    (pick-some (sameName w (bytes "FALSE")) (Word False) _ refl
-    (pick-some (sameName w (bytes "LIKE")) (Word Like) _ refl
-    (pick-some (sameName w (bytes "NOT")) (Word Not) _ refl
-    (pick-some (sameName w (bytes "NULL")) (Word Null) _ refl
-    (pick-some (sameName w (bytes "OR")) (Word Or) _ refl
-    (pick-some (sameName w (bytes "TRUE")) (Word True) Name refl refl))))))))
+unfolding isToken
+word-some = word-is (λ (k : TokenKind). isToken k ≡ true) refl (λ w. refl)
 
 pub no-end : {A : Type 0} → isToken NoToken ≡ true → A
 unfolding isToken

@@ -100,14 +100,14 @@ module _ (q : List ℕ) (at : ℕ) where
   abbrev s : ℕ
   s = run Class.White q at
 
-  white-again : run Class.White q s ≡ s
+  pub white-again : run Class.White q s ≡ s
   white-again = go (leb (length q) s) refl
     where
       go : (t : Bool) → leb (length q) s ≡ t → run Class.White q s ≡ s
       go true h = run-end Class.White q s (leb-true (length q) s h)
       go false h = run-stop {r = false} Class.White q s (leb-false (length q) s h) (sym (run-stops Class.White white-no-zero q at)) refl
 
-  past-white : Spans (s + length q) s (tokenAt q at)
+  pub past-white : Spans (s + length q) s (tokenAt q at)
   unfolding tokenAt tokenFrom isToken
   past-white = go (leb (length q) s) refl
     where

@@ -1,5 +1,5 @@
--- Tokens past the end, and tokens one after another: no token ends before the one before it.
-use Prim.Native.Nat.{ℕ, _≤_, _<_}
+-- Tokens one after another: no token ends before the one before it, and past the end nothing stands.
+use Prim.Native.Nat.{ℕ, zero, suc, _≤_, _<_}
 use mathlib.Core.Path.{_≡_, refl, sym, ap, _∙_}
 use mathlib.Core.List.{List}
 use mathlib.Core.Bool.{Bool, true, false, _&&_, false≢true}
@@ -10,10 +10,15 @@ use borrow.Author.Tests.{leb-true, leb-false, le-leb}
 use Rattle.base.specs.Pick.{pick}
 use Rattle.scan.specs.declared.Class.the-variants as Class
 use Rattle.scan.proofs.Runs.{run-end}
 use Rattle.token.specs.declared.TokenKind.the-variants.{End, NoToken}
 use Rattle.token.specs.declared.Token.{Token}
 use Rattle.token.specs.Token.{token, isToken, tokenFrom, tokenAt, wordOrNumber, apart, tokenAfter}
 use Rattle.token.proofs.Steps.{after-spans, step-forward}
+
+-- the n-th token from one on, which is itself the 0th
+unfoldable pub nthFrom : List ℕ → Token → ℕ → Token
+nthFrom q t zero = t
+nthFrom q t (suc n) = tokenAfter q (nthFrom q t n)
 
 module _ (q : List ℕ) where
   -- past the end nothing stands
