@@ -6,3 +6,4 @@ pub mod Demand3
 pub mod Laws
 pub mod Corollaries
 pub mod Paired
+pub mod Accepted

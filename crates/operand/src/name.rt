@@ -8,7 +8,8 @@ use table::lookup::is_class;
 ghost use mathlib.Core.Path.{_≡_};
 ghost use Rattle.operand.specs.Named.{spanned, named};
 
-fn name_at(q: &[u8], s: Span) -> &[u8]
+// A span of the query.
+pub fn spanned(q: &[u8], s: Span) -> &[u8]
     ensures { λ r. ⌜ now r ≡ spanned (now (q .entry)) s ⌝ }
 {
     if s.end < s.start {
@@ -24,10 +25,10 @@ pub fn find_named<'a>(q: &'a [u8], t: &'a [u8], p: Path) -> Found
     let first = p.first;
     let second = p.second;
     if p.names == 1 {
-        return find_property(t, name_at(q, first));
+        return find_property(t, spanned(q, first));
     }
-    if (p.names == 2) & is_class(t, name_at(q, first)) {
-        return find_property(t, name_at(q, second));
+    if (p.names == 2) & is_class(t, spanned(q, first)) {
+        return find_property(t, spanned(q, second));
     }
     Found::Absent
 }

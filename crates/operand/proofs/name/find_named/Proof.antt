@@ -3,8 +3,8 @@ use borrow.Author.Needs.{needs}
 use Rattle.operand.proofs.name.find_named.Statement.{statement}
 use Rattle.operand.proofs.name.find_named.Tie as tie
 
-name-at-requires : tie.Need-name-at-requires
-name-at-requires c κs = search needs
+spanned-requires : tie.Need-spanned-requires
+spanned-requires c κs = search needs
 
 find-property-requires : tie.Need-find-property-requires
 find-property-requires c κs = search needs
@@ -12,14 +12,14 @@ find-property-requires c κs = search needs
 returns : tie.Need-returns
 returns c = search law.named-alone
 
-name-at-requires-2 : tie.Need-name-at-requires-2
-name-at-requires-2 c κs = search needs
+spanned-requires-2 : tie.Need-spanned-requires-2
+spanned-requires-2 c κs = search needs
 
 is-class-requires : tie.Need-is-class-requires
 is-class-requires c κs = search needs
 
-name-at-requires-3 : tie.Need-name-at-requires-3
-name-at-requires-3 c κs = search needs
+spanned-requires-3 : tie.Need-spanned-requires-3
+spanned-requires-3 c κs = search needs
 
 find-property-requires-2 : tie.Need-find-property-requires-2
 find-property-requires-2 c κs = search needs
@@ -34,12 +34,12 @@ pub find-named-spec : {M : Type 1} → statement M
 find-named-spec =
     tie.close
     (tie.spec
-    name-at-requires
+    spanned-requires
     find-property-requires
     returns
-    name-at-requires-2
+    spanned-requires-2
     is-class-requires
-    name-at-requires-3
+    spanned-requires-3
     find-property-requires-2
     returns-2
     returns-3)

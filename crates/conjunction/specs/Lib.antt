@@ -1,0 +1,4 @@
+pub mod Groups
+pub mod Conjunction
+pub mod Conjoin
+pub mod Terms
