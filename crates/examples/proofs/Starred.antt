@@ -1,5 +1,5 @@
--- What check and evaluate say of 01's starred examples, mark and watch of runs, what the program prints, and which properties queries name, computed from their
--- definitions.
+-- What check and evaluate say of 01's starred examples, mark and watch of runs, what the program prints, which properties queries name, and what conjoin makes of two, computed from
+-- their definitions.
 use mathlib.Core.Path.{_≡_, refl}
 use lib.Ieee.{ofInt, ofBits, mul, div, neg, round, lt, eq}
 use Rattle.base.specs.Vectors.{results, expected}
@@ -76,6 +76,9 @@ use Rattle.filter.specs.Check as filter-check
 use Rattle.filter.specs.Evaluate as filter-evaluate
 use Rattle.filter.specs.Meaning as filter-meaning
 use Rattle.filter.specs.Refusal as filter-refusal
+use Rattle.conjunction.specs.Groups as conjunction-groups
+use Rattle.conjunction.specs.Conjunction as conjunction-conjunction
+use Rattle.conjunction.specs.Conjoin as conjunction-conjoin
 use Rattle.run.specs.Run as run-run
 use Rattle.run.specs.Totals as run-totals
 use Rattle.mark.specs.Mark as mark-mark
@@ -91,6 +94,7 @@ use Rattle.examples.specs.Marks.{outcome, calls}
 use Rattle.examples.specs.Watches as watches
 use Rattle.examples.specs.Printed.{printed, outputs}
 use Rattle.examples.specs.Namings.{named, namings}
+use Rattle.examples.specs.Conjunctions as conjunctions
 
 -- all in one computation, so that what it unfolds is listed once
 every-one :
@@ -99,6 +103,7 @@ every-one :
     × (results printed outputs ≡ expected outputs)
     × (results named namings ≡ expected namings)
     × (results watches.outcome watches.calls ≡ expected watches.calls)
+    × (results conjunctions.outcome conjunctions.calls ≡ expected conjunctions.calls)
 unfolding
     ofInt ofBits mul div neg round lt eq base-walk.walk
     base-digit.digitOf base-digit.allDigits base-digit.valueOf base-digit.sizeUnder
@@ -174,6 +179,9 @@ unfolding
     filter-evaluate.evaluate filter-evaluate.steps filter-evaluate.bound
     filter-meaning.truthOf filter-meaning.stepsOf filter-meaning.readsOf filter-meaning.unlessFailing filter-meaning.queryMeaning filter-meaning.querySteps filter-meaning.queryBound
     filter-refusal.callOf
+    conjunction-groups.lastWithin conjunction-groups.last conjunction-groups.groupAt conjunction-groups.follow conjunction-groups.termsWithin conjunction-groups.termsFrom
+    conjunction-conjunction.chained conjunction-conjunction.each conjunction-conjunction.products conjunction-conjunction.termText conjunction-conjunction.text conjunction-conjunction.conjunction conjunction-conjunction.size conjunction-conjunction.comparisons conjunction-conjunction.count conjunction-conjunction.isTooLarge
+    conjunction-conjoin.conjoin conjunction-conjoin.bufferAfter conjunctions.ored
     run-run.readingFrom run-run.runReading run-run.bodiesOf run-run.instancesOf
     run-totals.count
     mark-mark.mark mark-mark.marksAfter
@@ -184,7 +192,7 @@ unfolding
     report-line.spaced report-line.line report-line.refusedLine report-line.spacedTotals report-line.totalLine report-line.answerLines
     report-text.terminated report-text.text
     report-output.outputLines
-every-one = (refl, refl, refl, refl, refl)
+every-one = (refl, refl, refl, refl, refl, refl)
 
 pub starred-right : results outcomes starred ≡ expected starred
 starred-right = every-one .0
@@ -200,3 +208,6 @@ namings-right = every-one .3
 
 pub watches-right : results watches.outcome watches.calls ≡ expected watches.calls
 watches-right = every-one .4
+
+pub conjunctions-right : results conjunctions.outcome conjunctions.calls ≡ expected conjunctions.calls
+conjunctions-right = every-one .5

@@ -3,3 +3,4 @@ pub mod Marks
 pub mod Watches
 pub mod Printed
 pub mod Namings
+pub mod Conjunctions

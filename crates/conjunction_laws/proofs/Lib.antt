@@ -1,0 +1,17 @@
+pub mod Chains
+pub mod Segments
+pub mod Corresponding
+pub mod Tokens
+pub mod Behind
+pub mod Between
+pub mod Expressions
+pub mod Leading
+pub mod ByGroups
+pub mod Encoding
+pub mod Own
+pub mod Written
+pub mod Included
+pub mod Theorem
+pub mod LastByte
+pub mod Trimmed
+pub mod Examples
