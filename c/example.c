@@ -69,6 +69,21 @@ static void watch(const char *filter, const buffer *table, const buffer *run) {
     printf("  %d ones, %d zeros\n", (int)watched.ones, (int)watched.zeros);
 }
 
+/* Makes one filter of two, for somebody who wants what both include. A text of 4,096 bytes is the longest. */
+static void conjoin(const char *first, const char *second, const buffer *table, const buffer *instance) {
+    uint8_t text[4096 + 1];
+    fql_conjoined joined = fql_conjoin(bytes_of(first), strlen(first), bytes_of(second), strlen(second),
+                                       table->bytes, table->length, text, sizeof text - 1);
+    if (joined.number != 0) {
+        const char *of[] = {"both", "the first", "the second"};
+        printf("refused %d at %d, for %s\n", (int)joined.number, (int)joined.place, of[joined.query]);
+        return;
+    }
+    text[joined.length] = 0;
+    printf("in one: %s\n", (const char *)text);
+    ask((const char *)text, table, instance);
+}
+
 int main(void) {
     buffer table = sample_table(), instance = sample_instance(1), run = sample_run();
     const char *filters[] = {
@@ -83,6 +98,9 @@ int main(void) {
             mark(filters[n], &table, &run);
             watch(filters[n], &table, &run);
         }
+    }
+    for (size_t n = 1; n < sizeof filters / sizeof filters[0]; n++) {
+        conjoin(filters[0], filters[n], &table, &instance);
     }
     return 0;
 }

@@ -1,4 +1,4 @@
-/* The five functions as a C program calls them. */
+/* The six functions as a C program calls them. */
 #include <stdio.h>
 #include <stdlib.h>
 #include <string.h>
@@ -391,10 +391,127 @@ static void watches_of_a_refused_call(void) {
     }
 }
 
+/* The length of text is that of the buffer lent; bytes behind it are the test's own. */
+static fql_conjoined conjoin(const char *first, const char *second, const buffer *table, buffer *text) {
+    return fql_conjoin((const uint8_t *)first, strlen(first), (const uint8_t *)second, strlen(second),
+                       table->bytes, table->length, text->bytes, text->length);
+}
+
+static int is_conjoined(fql_conjoined found, uint64_t length) {
+    return found.number == 0 && found.place == 0 && found.query == 0 && found.length == length;
+}
+
+/* The buffer starts with the text, and all behind it is left alone. */
+static int is_text(const buffer *found, const char *expected) {
+    size_t length = strlen(expected);
+    int same = memcmp(found->bytes, expected, length) == 0;
+    for (size_t n = length; n < sizeof found->bytes; n++) same = same && found->bytes[n] == 7;
+    return same;
+}
+
+static void conjoined_queries(void) {
+    buffer table = sample_table();
+    const struct {
+        const char *first, *second, *text;
+    } joined[] = {
+        {"On = TRUE", "Temp < 0", "(On = TRUE) AND (Temp < 0)"},
+        {"(On = TRUE)", "\t( Temp  < 0\r\n)\n", "(On = TRUE) AND (Temp  < 0)"},
+        {"On=TRUE OR R=.5", "Temp<0", "(On=TRUE OR R=.5) AND (Temp<0)"},
+        {"(On=TRUE)or(R=.5)", "Temp<0", "(On=TRUE) AND (Temp<0) OR (R=.5) AND (Temp<0)"},
+        {"(R=1.)AND(R=2.)", "(Temp=3)OR(Temp=4)AND(Temp=5)",
+         "(R=1.) AND (R=2.) AND (Temp=3) OR (R=1.) AND (R=2.) AND (Temp=4) AND (Temp=5)"},
+        {"Name = ') OR ('", "(Name = '(') OR (Name = '\\'')",
+         "(Name = ') OR (') AND (Name = '(') OR (Name = ') OR (') AND (Name = '\\'')"},
+    };
+    for (size_t n = 0; n < sizeof joined / sizeof joined[0]; n++) {
+        size_t length = strlen(joined[n].text);
+        for (size_t more = 0; more <= 2; more++) {
+            buffer text = sevens(length + more);
+            EXPECT(is_conjoined(conjoin(joined[n].first, joined[n].second, &table, &text), length));
+            EXPECT(is_text(&text, joined[n].text));
+        }
+        EXPECT(is_refusal(check(joined[n].text, &table), 0, 0));
+        for (int on = 0; on <= 1; on++) {
+            buffer instance = sample_instance(on);
+            uint64_t both = evaluate(joined[n].first, &table, &instance).included &
+                            evaluate(joined[n].second, &table, &instance).included;
+            EXPECT(evaluate(joined[n].text, &table, &instance).included == both);
+        }
+    }
+}
+
+static int is_unjoined(fql_conjoined found, uint64_t query, uint64_t number, uint64_t place) {
+    return found.number == number && found.place == place && found.query == query && found.length == 0;
+}
+
+/* So many comparisons, joined by OR to one group. */
+static void repeat(char *out, int comparisons) {
+    *out = 0;
+    for (int n = 0; n < comparisons; n++) strcat(out, n == 0 ? "R=.5" : " OR R=.5");
+}
+
+/* The first is checked, then the second, and then come 43 and 44. */
+static void conjoins_of_a_refused_call(void) {
+    buffer table = sample_table(), empty = {{0}, 0};
+    char many[65 * 8];
+    repeat(many, 64);
+    const struct {
+        const char *first, *second;
+        const buffer *table;
+        size_t length;
+        uint64_t query, number, place;
+    } refused[] = {
+        {"On = TRUE AND", "On = TRUE", &table, 100, 1, FQL_GRAMMAR, 13},
+        {"On = TRUE", "On = TRUE AND", &table, 100, 2, FQL_GRAMMAR, 13},
+        {"Since = 'x'", "On = TRUE AND", &table, 100, 1, FQL_DATETIME, 8},
+        {"On = TRUE", "(On = TRUE) OR (Zed = 1)", &table, 0, 2, FQL_UNKNOWN_NAME, 16},
+        {"On = TRUE", "On = TRUE", &empty, 100, 1, FQL_TABLE, 0},
+        {"On = TRUE AND", "", &empty, 0, 1, FQL_TABLE, 0},
+        {many, "On = TRUE AND", &table, 1024, 2, FQL_GRAMMAR, 13},
+        {many, "On = TRUE", &table, 1024, 0, FQL_CONJUNCTION_SIZE, 0},
+        {"On = TRUE", many, &table, 0, 0, FQL_CONJUNCTION_SIZE, 0},
+        {"On = TRUE", "Temp < 0", &table, 25, 0, FQL_CONJUNCTION_BUFFER, 0},
+        {"On = TRUE", "Temp < 0", &table, 0, 0, FQL_CONJUNCTION_BUFFER, 0},
+    };
+    for (size_t n = 0; n < sizeof refused / sizeof refused[0]; n++) {
+        buffer text = sevens(refused[n].length);
+        fql_conjoined found = conjoin(refused[n].first, refused[n].second, refused[n].table, &text);
+        EXPECT(is_unjoined(found, refused[n].query, refused[n].number, refused[n].place));
+        EXPECT(is_text(&text, ""));
+    }
+    repeat(many, 63);
+    buffer text = sevens(sizeof text.bytes);
+    EXPECT(is_conjoined(conjoin(many, "R=.5", &table, &text), strlen(many) + 4 + 9));
+}
+
+/* A query of so many bytes beside one of 9. Its text is on the heap, so that a write past it is seen by a memory
+   checker. */
+static void conjoined_to_the_longest_text(void) {
+    buffer table = sample_table();
+    static uint8_t query[4079];
+    memset(query, ' ', sizeof query);
+    memcpy(query, "On", 2);
+    for (size_t length = 4077; length <= 4079; length++) {
+        memcpy(query + length - 6, "= TRUE", 6);
+        for (size_t less = 0; less <= 1; less++) {
+            size_t room = length + 9 + 9 - less;
+            uint8_t *text = malloc(room);
+            EXPECT(text != NULL);
+            fql_conjoined found = fql_conjoin(query, length, (const uint8_t *)"On = TRUE", 9, table.bytes, table.length,
+                                              text, room);
+            if (length == 4079) EXPECT(is_unjoined(found, 0, FQL_CONJUNCTION_SIZE, 0));
+            else if (less) EXPECT(is_unjoined(found, 0, FQL_CONJUNCTION_BUFFER, 0));
+            else EXPECT(is_conjoined(found, room) && memcmp(text + 1, query, length) == 0);
+            free(text);
+        }
+        memset(query + length - 6, ' ', 6);
+    }
+}
+
 static void parts_at_faults(void) {
     buffer table = sample_table();
     const uint8_t *query = (const uint8_t *)"On = TRUE AND";
-    for (uint64_t number = 0; number <= 42; number++) {
+    for (uint64_t number = 0; number <= 44; number++) {
         int of_table = number == 2 || number == 3, of_either = number >= 1 && number <= 25;
         uint64_t source = of_table ? FQL_OF_TABLE : of_either ? FQL_OF_QUERY : FQL_NOTHING;
         uint64_t length = source == FQL_OF_TABLE ? 48 : source == FQL_OF_QUERY ? 13 : 0;
@@ -422,6 +539,11 @@ static void empty_slices(void) {
     EXPECT(is_totals(fql_mark(query, 9, table.bytes, table.length, none, 0, none, 0), 0, 0, 0));
     EXPECT(is_watched(fql_watch(query, 9, table.bytes, table.length, none, 0, 3, 2, none, 0), 0, 0));
     EXPECT(fql_watch(none, 0, none, 0, none, 0, 0, 0, none, 0).number == FQL_WINDOW);
+    EXPECT(is_unjoined(fql_conjoin(none, 0, none, 0, none, 0, none, 0), 1, FQL_TABLE, 0));
+    EXPECT(is_unjoined(fql_conjoin(none, 0, none, 0, table.bytes, table.length, none, 0), 1, FQL_GRAMMAR, 0));
+    EXPECT(is_unjoined(fql_conjoin(query, 9, none, 0, table.bytes, table.length, none, 0), 2, FQL_GRAMMAR, 0));
+    fql_conjoined joined = fql_conjoin(query, 9, query, 9, table.bytes, table.length, none, 0);
+    EXPECT(is_unjoined(joined, 0, FQL_CONJUNCTION_BUFFER, 0));
     EXPECT(is_part(fql_fault_text(none, 0, none, 0, 11, 0), FQL_OF_QUERY, 0, 0));
     EXPECT(is_part(fql_fault_text(none, 0, none, 0, 2, 0), FQL_OF_TABLE, 0, 0));
     EXPECT(is_part(fql_fault_text(none, 0, none, 0, 2, 1), FQL_NOTHING, 0, 0));
@@ -442,6 +564,9 @@ int main(void) {
     watched_runs();
     watched_until_the_window_has_passed();
     watches_of_a_refused_call();
+    conjoined_queries();
+    conjoins_of_a_refused_call();
+    conjoined_to_the_longest_text();
     parts_at_faults();
     empty_slices();
     printf("c/test.c: %d of %d hold\n", checked - wrong, checked);

@@ -5,9 +5,9 @@
    byte first.
 
    Every function takes bytes of any content and length, and numbers of any size, and returns. It allocates nothing,
-   keeps nothing, and writes nowhere but into marks, so it may be called from any thread. Each slice is a pointer and a
-   length in bytes. A pointer may not be null, also where its length is 0, and marks may not overlap the other bytes of
-   the call.
+   keeps nothing, and writes nowhere but into marks or buffer, so it may be called from any thread. Each slice is a
+   pointer and a length in bytes. A pointer may not be null, also where its length is 0, and neither marks nor buffer
+   may overlap the other bytes of the call; these may overlap one another.
 
    Link with libfql_export.a, which `rt staticlib fql_export` writes into target/staticlib. */
 #ifndef FQL_H
@@ -59,23 +59,25 @@ enum fql_type {
 
 /* The numbers of refusals, in the order in which the causes are tried. Number 0 means that nothing is refused. */
 enum fql_cause {
-    FQL_WINDOW = 42,          /* fql_watch's window is not from 1 to 64, or its need not from 1 to the window */
-    FQL_TABLE = 2,            /* the table is longer than 8,192 bytes, or a record is malformed or has a bad name */
-    FQL_NAME_TWICE = 3,       /* the table has a property name twice */
-    FQL_QUERY_LENGTH = 1,     /* the query is longer than 4,096 bytes */
-    FQL_ENCODING = 10,        /* the query is not UTF-8 */
-    FQL_GRAMMAR = 11,         /* something is no token, or no query can have this token here */
-    FQL_COUNT = 12,           /* a 65th comparison, or a 33rd element of an array literal */
-    FQL_UNKNOWN_NAME = 20,    /* a path names no property of the table */
-    FQL_SHAPE = 22,           /* a scalar stands where the comparison's form needs an array, or the reverse */
-    FQL_KIND = 21,            /* the sides are of different rows of types, or the row doesn't have the operator */
-    FQL_RANGE = 23,           /* a literal or an index is out of range */
-    FQL_PATTERN = 24,         /* a pattern is malformed or too large */
-    FQL_DATETIME = 25,        /* a datetime literal is malformed */
-    FQL_INSTANCE_LENGTH = 30, /* the instance is longer than 65,535 bytes */
-    FQL_INSTANCE = 31,        /* the instance doesn't conform to the table */
-    FQL_RUN = 40,             /* the run doesn't divide into records of kind 0x0300 */
-    FQL_MARKS_LENGTH = 41     /* there are fewer marks than instances in the run */
+    FQL_WINDOW = 42,            /* fql_watch's window is not from 1 to 64, or its need not from 1 to the window */
+    FQL_TABLE = 2,              /* the table is longer than 8,192 bytes, or a record is malformed or has a bad name */
+    FQL_NAME_TWICE = 3,         /* the table has a property name twice */
+    FQL_QUERY_LENGTH = 1,       /* the query is longer than 4,096 bytes */
+    FQL_ENCODING = 10,          /* the query is not UTF-8 */
+    FQL_GRAMMAR = 11,           /* something is no token, or no query can have this token here */
+    FQL_COUNT = 12,             /* a 65th comparison, or a 33rd element of an array literal */
+    FQL_UNKNOWN_NAME = 20,      /* a path names no property of the table */
+    FQL_SHAPE = 22,             /* a scalar stands where the comparison's form needs an array, or the reverse */
+    FQL_KIND = 21,              /* the sides are of different rows of types, or the row doesn't have the operator */
+    FQL_RANGE = 23,             /* a literal or an index is out of range */
+    FQL_PATTERN = 24,           /* a pattern is malformed or too large */
+    FQL_DATETIME = 25,          /* a datetime literal is malformed */
+    FQL_INSTANCE_LENGTH = 30,   /* the instance is longer than 65,535 bytes */
+    FQL_INSTANCE = 31,          /* the instance doesn't conform to the table */
+    FQL_RUN = 40,               /* the run doesn't divide into records of kind 0x0300 */
+    FQL_MARKS_LENGTH = 41,      /* there are fewer marks than instances in the run */
+    FQL_CONJUNCTION_SIZE = 43,  /* fql_conjoin's text would have more than 64 comparisons or 4,096 bytes */
+    FQL_CONJUNCTION_BUFFER = 44 /* fql_conjoin's buffer is shorter than the text */
 };
 
 /* The marks that fql_mark writes. Those of fql_watch are 1 and 0. */
@@ -93,8 +95,8 @@ enum fql_source {
 };
 
 /* A refusal: its number, or 0, and its place, a byte offset into the table (2, 3), the query (1, 10 to 25), the
-   instance (31) or the run (40). The place is 0 where a whole or a number (42) is at fault, and the length of a text or
-   of records where something is missing at their end. */
+   instance (31) or the run (40). The place is 0 where a whole, a number (42) or a length (43, 44) is at fault, and the
+   length of a text or of records where something is missing at their end. */
 typedef struct fql_refusal {
     uint64_t number;
     uint64_t place;
@@ -124,6 +126,16 @@ typedef struct fql_watched {
     uint64_t ones;
     uint64_t zeros;
 } fql_watched;
+
+/* Where number is 0, the length of the text in the buffer, and query is 0. Otherwise length is 0, and query says whose
+   check has refused: 1 for the first, also where the table is at fault, 2 for the second, and 0 where both are accepted
+   (43, 44). The place of 1 and of 10 to 25 is one in that query. */
+typedef struct fql_conjoined {
+    uint64_t number;
+    uint64_t place;
+    uint64_t query;
+    uint64_t length;
+} fql_conjoined;
 
 /* A part of the query or of the table: which of them, from which byte on, and how many bytes. All are 0 where there is
    none. */
@@ -161,6 +173,21 @@ fql_totals fql_mark(const uint8_t *query, size_t query_length, const uint8_t *ta
 fql_watched fql_watch(const uint8_t *query, size_t query_length, const uint8_t *table, size_t table_length,
                       const uint8_t *run, size_t run_length, uint64_t window, uint64_t need,
                       uint8_t *marks, size_t marks_length);
+
+/* Writes one query that includes exactly the instances that both queries include, and that fql_check accepts against
+   the same table. Its text goes into the buffer, without a NUL behind it, and its length is returned; a buffer of 4,096
+   bytes is never too short. Bytes beyond the text keep their values, and a refused call leaves all as they were.
+
+   A query is terms joined by OR, of groups joined by AND; one without brackets is a single group, whatever it joins
+   inside. Each term of the first is written with each of the second, in order: its groups and then the other's, each as
+   it stands between its brackets but without whitespace at its ends. So `Temp > 90` and `(Name = 'a') OR (Name = 'b')`
+   make `(Temp > 90) AND (Name = 'a') OR (Temp > 90) AND (Name = 'b')`.
+
+   The queries are checked, the first before the second. If both are accepted, a text of more than 64 comparisons or
+   4,096 bytes is refused with FQL_CONJUNCTION_SIZE, and then one that is longer than the buffer with
+   FQL_CONJUNCTION_BUFFER. */
+fql_conjoined fql_conjoin(const uint8_t *first, size_t first_length, const uint8_t *second, size_t second_length,
+                          const uint8_t *table, size_t table_length, uint8_t *buffer, size_t buffer_length);
 
 /* The part that a refusal is about, from its place on: of the table for 2 and 3, of the query for the other numbers
    from 1 to 25; nothing for any other number or for a place past the end. */

@@ -20,11 +20,16 @@ use Rattle.watch.specs.declared.refusal.WatchTotals.{WatchTotals}
 use Rattle.watch.specs.declared.refusal.WatchRefusal.{WatchRefusal}
 use Rattle.watch.specs.declared.refusal.Watched.{Watched}
 use Rattle.watch.specs.declared.refusal.Watched.the-variants as watched
+use Rattle.conjunction.specs.Conjoin as conjoin
+use Rattle.conjunction.specs.declared.refusal.ConjoinRefusal.{ConjoinRefusal}
+use Rattle.conjunction.specs.declared.refusal.Conjoined.{Conjoined}
+use Rattle.conjunction.specs.declared.refusal.Conjoined.the-variants as conjoined
 use Rattle.fql_export.specs.declared.FqlRefusal.{FqlRefusal}
 use Rattle.fql_export.specs.declared.FqlAnswer.{FqlAnswer}
 use Rattle.fql_export.specs.declared.FqlTotals.{FqlTotals}
 use Rattle.fql_export.specs.declared.FqlWatched.{FqlWatched}
-use Rattle.fql_export.specs.Answers.{refusalOf, answerOf, totalsOf, watchedOf, partOf}
+use Rattle.fql_export.specs.declared.FqlConjoined.{FqlConjoined}
+use Rattle.fql_export.specs.Answers.{refusalOf, answerOf, totalsOf, watchedOf, conjoinedOf, partOf}
 
 module _ (c : Checked) where
   pub refusal-none : c ≡ checked.Accepted → record { number = 0; place = 0 } ≡ refusalOf c
@@ -58,6 +63,14 @@ module _ (w : Watched) where
   pub watched-refused : (r : WatchRefusal) → w ≡ watched.Refused r → {n : ℕ} → n ≡ watch.numberOf (r .cause) → record { number = n; place = r .place; ones = 0; zeros = 0 } ≡ watchedOf w
   watched-refused r e en = rw (e, en) refl
 
+module _ (c : Conjoined) where
+  pub conjoined-length : (n : ℕ) → c ≡ conjoined.Length n → record { number = 0; place = 0; query = 0; length = n } ≡ conjoinedOf c
+  conjoined-length n e = rw e refl
+
+  pub conjoined-refused : (r : ConjoinRefusal) → c ≡ conjoined.Refused r → {n k : ℕ} → n ≡ conjoin.numberOf (r .cause) → k ≡ conjoin.queryOf (r .cause)
+      → record { number = n; place = r .place; query = k; length = 0 } ≡ conjoinedOf c
+  conjoined-refused r e en ek = rw (e, en, ek) refl
+
 module _ (ql tl n p : ℕ) {x : Shown} (e : x ≡ shownOf ql tl n p) where
   pub part-none : x ≡ Nothing → record { source = 0; start = 0; length = 0 } ≡ partOf (shownOf ql tl n p) ql tl p
   part-none f = rw (← e, f) refl
@@ -73,6 +86,9 @@ of-mark e h = h ∙ ap totalsOf e
 
 pub of-watch : {a b : Watched} {r : FqlWatched} → a ≡ b → r ≡ watchedOf a → r ≡ watchedOf b
 of-watch e h = h ∙ ap watchedOf e
+
+pub of-conjoin : {a b : Conjoined} {r : FqlConjoined} → a ≡ b → r ≡ conjoinedOf a → r ≡ conjoinedOf b
+of-conjoin e h = h ∙ ap conjoinedOf e
 
 pub of-check : {c d : Checked} {r : FqlRefusal} → c ≡ d → r ≡ refusalOf c → r ≡ refusalOf d
 of-check e h = h ∙ ap refusalOf e

@@ -13,10 +13,14 @@ use Rattle.mark.specs.declared.refusal.Marked.the-variants as marked
 use Rattle.watch.specs.Watch as watch
 use Rattle.watch.specs.declared.refusal.Watched.{Watched}
 use Rattle.watch.specs.declared.refusal.Watched.the-variants as watched
+use Rattle.conjunction.specs.Conjoin as conjoin
+use Rattle.conjunction.specs.declared.refusal.Conjoined.{Conjoined}
+use Rattle.conjunction.specs.declared.refusal.Conjoined.the-variants as conjoined
 use Rattle.fql_export.specs.declared.FqlRefusal.{FqlRefusal}
 use Rattle.fql_export.specs.declared.FqlAnswer.{FqlAnswer}
 use Rattle.fql_export.specs.declared.FqlTotals.{FqlTotals}
 use Rattle.fql_export.specs.declared.FqlWatched.{FqlWatched}
+use Rattle.fql_export.specs.declared.FqlConjoined.{FqlConjoined}
 use Rattle.fql_export.specs.declared.FqlPart.{FqlPart}
 
 abbrev pub refusalOf : Checked → FqlRefusal
@@ -35,6 +39,10 @@ totalsOf (marked.Refused r) = record { number = mark.numberOf (r .cause); place 
 abbrev pub watchedOf : Watched → FqlWatched
 watchedOf (watched.Totals x) = record { number = 0; place = 0; ones = x .ones; zeros = x .zeros }
 watchedOf (watched.Refused r) = record { number = watch.numberOf (r .cause); place = r .place; ones = 0; zeros = 0 }
+
+abbrev pub conjoinedOf : Conjoined → FqlConjoined
+conjoinedOf (conjoined.Length n) = record { number = 0; place = 0; query = 0; length = n }
+conjoinedOf (conjoined.Refused r) = record { number = conjoin.numberOf (r .cause); place = r .place; query = conjoin.queryOf (r .cause); length = 0 }
 
 -- fault_text/specs/Part
 abbrev pub partOf : Shown → (queryLength tableLength place : ℕ) → FqlPart

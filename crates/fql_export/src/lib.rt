@@ -1,4 +1,7 @@
 // C functions over the engine, for agents; include/fql.h declares them. A slice is lent as a pointer and a length.
+use conjunction::conjoin::conjoin;
+use conjunction::refusal::Conjoined;
+use conjunction::refusal::query_of;
 use fault_text::Shown;
 use fault_text::shown_of;
 use filter::check::check;
@@ -16,8 +19,9 @@ ghost use Rattle.filter.specs.Check as Check;
 ghost use Rattle.filter.specs.Evaluate as Evaluate;
 ghost use Rattle.mark.specs.Mark as Mark;
 ghost use Rattle.watch.specs.Watch as Watch;
+ghost use Rattle.conjunction.specs.Conjoin as Conjoin;
 ghost use Rattle.fault_text.specs.FaultText.{shownOf};
-ghost use Rattle.fql_export.specs.Answers.{refusalOf, answerOf, totalsOf, watchedOf, partOf};
+ghost use Rattle.fql_export.specs.Answers.{refusalOf, answerOf, totalsOf, watchedOf, conjoinedOf, partOf};
 
 // A refusal's number and place; number 0 where there is none.
 #[repr(C)]
@@ -52,6 +56,15 @@ pub struct FqlWatched {
     pub place: u64,
     pub ones: u64,
     pub zeros: u64,
+}
+
+// Where the number is 0, the text's length; else which query is at fault (1 the first, 2 the second, 0 neither).
+#[repr(C)]
+pub struct FqlConjoined {
+    pub number: u64,
+    pub place: u64,
+    pub query: u64,
+    pub length: u64,
 }
 
 // Which text (0 none, 1 the query, 2 the table), from which byte on, and how many bytes of it.
@@ -154,6 +167,28 @@ fn watched_of(w: Watched) -> FqlWatched
     }
 }
 
+fn conjoined_of(c: Conjoined) -> FqlConjoined
+    ensures { λ r. ⌜ r ≡ conjoinedOf c ⌝ }
+{
+    match c {
+        Conjoined::Length(n) => FqlConjoined {
+            number: 0,
+            place: 0,
+            query: 0,
+            length: n as u64,
+        },
+        Conjoined::Refused(x) => {
+            let cause = x.cause;
+            FqlConjoined {
+                number: conjunction::refusal::number_of(cause) as u64,
+                place: x.place as u64,
+                query: query_of(cause) as u64,
+                length: 0,
+            }
+        }
+    }
+}
+
 #[no_mangle]
 pub extern "C" fn fql_check<'a>(query: &'a [u8], table: &'a [u8]) -> FqlRefusal
     ensures { λ r. ⌜ r ≡ refusalOf (Check.check (now (query .entry)) (now (table .entry))) ⌝ }
@@ -196,6 +231,18 @@ pub extern "C" fn fql_watch<'a>(
     ensures { λ r. ⌜ (r ≡ watchedOf (Watch.watch (now (query .entry)) (now (table .entry)) (now (run .entry)) window need (length (now (marks .entry))))) × (now (marks .exit) ≡ Watch.marksAfter (now (query .entry)) (now (table .entry)) (now (run .entry)) window need (now (marks .entry))) × (length (now (marks .exit)) ≡ length (now (marks .entry))) ⌝ }
 {
     watched_of(watch(query, table, run, window as usize, need as usize, marks))
+}
+
+#[no_mangle]
+pub extern "C" fn fql_conjoin<'a>(
+    first: &'a [u8],
+    second: &'a [u8],
+    table: &'a [u8],
+    buffer: &mut [u8],
+) -> FqlConjoined
+    ensures { λ r. ⌜ (r ≡ conjoinedOf (Conjoin.conjoin (now (first .entry)) (now (second .entry)) (now (table .entry)) (length (now (buffer .entry))))) × (now (buffer .exit) ≡ Conjoin.bufferAfter (now (first .entry)) (now (second .entry)) (now (table .entry)) (now (buffer .entry))) × (length (now (buffer .exit)) ≡ length (now (buffer .entry))) ⌝ }
+{
+    conjoined_of(conjoin(first, second, table, buffer))
 }
 
 // The part is named and not lent: the caller holds both texts.

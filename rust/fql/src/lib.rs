@@ -3,7 +3,7 @@
 //!
 //! A filter is a query's text; a table says which properties a class has and of what [types]; an instance holds their
 //! values. Tables and instances are [records](record). Every function takes bytes of any content and length, and
-//! numbers of any size, allocates nothing and keeps nothing.
+//! numbers of any size, and keeps nothing; the engine allocates nothing.
 //!
 //! ```
 //! use fql::record::{self, write};
@@ -46,12 +46,14 @@
 #![warn(missing_docs)]
 
 mod answer;
+mod conjoin;
 mod raw;
 pub mod record;
 mod refusal;
 pub mod types;
 
 pub use answer::{Answer, FaultText, Totals, Verdict, WatchTotals, EXCLUDED, FAILED, INCLUDED};
+pub use conjoin::{conjoin, conjunction, AtFault, ConjoinRefusal, LONGEST_QUERY};
 pub use refusal::{Cause, Refusal};
 
 /// Whether the query can be evaluated on the instances of the table's class.

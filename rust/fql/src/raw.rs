@@ -33,6 +33,14 @@ pub struct FqlWatched {
 }
 
 #[repr(C)]
+pub struct FqlConjoined {
+    pub number: u64,
+    pub place: u64,
+    pub query: u64,
+    pub length: u64,
+}
+
+#[repr(C)]
 pub struct FqlPart {
     pub source: u64,
     pub start: u64,
@@ -75,6 +83,17 @@ extern "C" {
         marks: *mut u8,
         marks_length: usize,
     ) -> FqlWatched;
+
+    pub fn fql_conjoin(
+        first: *const u8,
+        first_length: usize,
+        second: *const u8,
+        second_length: usize,
+        table: *const u8,
+        table_length: usize,
+        buffer: *mut u8,
+        buffer_length: usize,
+    ) -> FqlConjoined;
 
     pub fn fql_fault_text(
         query: *const u8,

@@ -42,11 +42,15 @@ pub enum Cause {
     Run = 40,
     /// There are fewer marks than instances in the run.
     MarksLength = 41,
+    /// Two queries made into one by [`conjoin`](crate::conjoin) would have more than 64 comparisons or 4,096 bytes.
+    ConjunctionSize = 43,
+    /// The buffer is shorter than two queries made into one.
+    ConjunctionBuffer = 44,
 }
 
 impl Cause {
     /// All causes, in the order in which they are tried.
-    pub const ALL: [Cause; 17] = [
+    pub const ALL: [Cause; 19] = [
         Cause::Window,
         Cause::Table,
         Cause::NameTwice,
@@ -64,6 +68,8 @@ impl Cause {
         Cause::Instance,
         Cause::Run,
         Cause::MarksLength,
+        Cause::ConjunctionSize,
+        Cause::ConjunctionBuffer,
     ];
 
     /// The number by which the C functions and the program name the cause.
@@ -103,6 +109,8 @@ impl Cause {
             Cause::Instance => "the instance's record here isn't the one that the table asks for",
             Cause::Run => "the run has no whole record of kind 0x0300 here",
             Cause::MarksLength => "there are fewer marks than instances in the run",
+            Cause::ConjunctionSize => "both queries in one would have more than 64 comparisons or 4,096 bytes",
+            Cause::ConjunctionBuffer => "the buffer is shorter than both queries in one",
         }
     }
 }
@@ -120,8 +128,8 @@ pub struct Refusal {
     pub cause: Cause,
     /// The offset in bytes of what is at fault: in the table for [`Cause::Table`] and [`Cause::NameTwice`], in the
     /// instance for [`Cause::Instance`], in the run for [`Cause::Run`], in the query otherwise. It is 0 where a whole
-    /// is at fault, or a number ([`Cause::Window`]), and the length of a text or of records where something is missing
-    /// at their end.
+    /// is at fault, a number ([`Cause::Window`]) or a length ([`Cause::ConjunctionSize`],
+    /// [`Cause::ConjunctionBuffer`]), and the length of a text or of records where something is missing at their end.
     pub place: u64,
 }
 
@@ -155,7 +163,7 @@ mod tests {
     #[test]
     fn causes_have_their_numbers_in_the_order_in_which_they_are_tried() {
         let numbers = Cause::ALL.map(Cause::number);
-        assert_eq!(numbers, [42, 2, 3, 1, 10, 11, 12, 20, 22, 21, 23, 24, 25, 30, 31, 40, 41]);
+        assert_eq!(numbers, [42, 2, 3, 1, 10, 11, 12, 20, 22, 21, 23, 24, 25, 30, 31, 40, 41, 43, 44]);
     }
 
     #[test]
@@ -167,7 +175,7 @@ mod tests {
 
     #[test]
     fn numbers_of_no_cause() {
-        for number in [0, 4, 9, 13, 19, 26, 29, 32, 39, 43, 258, u64::MAX] {
+        for number in [0, 4, 9, 13, 19, 26, 29, 32, 39, 45, 258, u64::MAX] {
             assert_eq!(Cause::from_number(number), None);
         }
     }

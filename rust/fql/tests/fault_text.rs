@@ -17,7 +17,7 @@ fn of_the_examples() {
 
 #[test]
 fn of_empty_slices() {
-    for number in 0..=42 {
+    for number in 0..=44 {
         let expected = match number {
             2 | 3 => FaultText::Table(&[]),
             1..=25 => FaultText::Query(&[]),
@@ -33,7 +33,7 @@ fn run(r: &mut Random) {
     let mut refused = 0;
     for _ in 0..20_000 {
         let case = cases::random(r);
-        let (number, place) = (r.below(45) as u64, r.below(case.query.len() + case.table.len() + 2) as u64);
+        let (number, place) = (r.below(47) as u64, r.below(case.query.len() + case.table.len() + 2) as u64);
         agree_on_fault_text(&case.query, &case.table, number, place);
         if let Err(refusal) = check(&case.query, &case.table) {
             refused += 1;

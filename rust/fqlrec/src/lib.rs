@@ -1,4 +1,4 @@
-//! Tables and runs of the filter engine as readable text, refusals explained, and runs watched.
+//! Tables and runs of the filter engine as readable text, refusals explained, runs watched, and queries joined.
 //!
 //! A text is a table and the instances of a run:
 //!
@@ -40,6 +40,7 @@ mod explanation;
 mod faulty;
 mod hex;
 mod integer;
+mod join;
 mod line;
 mod named;
 mod place;
@@ -56,6 +57,7 @@ mod watch;
 
 pub use explain::explain;
 pub use explanation::Explanation;
+pub use join::join;
 pub use problem::Problem;
 pub use read::read;
 pub use show::show;

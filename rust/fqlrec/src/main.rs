@@ -1,11 +1,11 @@
-//! The record tool: tables and runs as text and back, refusals explained, and runs watched.
+//! The record tool: tables and runs as text and back, refusals explained, runs watched, and queries joined.
 
 use std::fs;
-use std::io::Write;
+use std::io::{stdout, IsTerminal, Write};
 use std::path::Path;
 use std::process::ExitCode;
 
-use fqlrec::{explain, read, show, watch, Explanation, Files};
+use fqlrec::{explain, join, read, show, watch, Explanation, Files};
 
 const USAGE: &str = "\
 usage: fqlrec write FILE FOLDER           write FOLDER/table and FOLDER/run from the text in FILE
@@ -14,8 +14,10 @@ usage: fqlrec write FILE FOLDER           write FOLDER/table and FOLDER/run from
                                           where and why not
        fqlrec watch FOLDER WINDOW NEED    print 1 for each instance of FOLDER/run where at least NEED of the last
                                           WINDOW, up to and with it, are included by FOLDER/query, else 0
+       fqlrec join FOLDER FIRST SECOND    print one query for FOLDER/table that includes what the queries in the files
+                                          FIRST and SECOND both include
 
-The exit status is 0, 1 if FOLDER/query, table or run, WINDOW or NEED is refused, 2 if a file or an argument is wrong.
+The exit status is 0, 1 if a query, table or run, WINDOW or NEED is refused, 2 if a file or an argument is wrong.
 ";
 
 fn main() -> ExitCode {
@@ -26,6 +28,7 @@ fn main() -> ExitCode {
         ["show", folder] => print_text(Path::new(folder)).map(|()| true),
         ["explain", folder] => print_explanation(Path::new(folder), explain),
         ["watch", folder, window, need] => print_watch(Path::new(folder), window, need),
+        ["join", folder, first, second] => print_joined(Path::new(folder), first, second),
         _ => Err(USAGE.trim_end().to_owned()),
     };
     match result {
@@ -47,7 +50,7 @@ fn store(path: &Path, bytes: &[u8]) -> Result<(), String> {
 }
 
 fn print(text: &str) -> Result<(), String> {
-    std::io::stdout().write_all(text.as_bytes()).map_err(|e| format!("standard output: {e}"))
+    stdout().write_all(text.as_bytes()).map_err(|e| format!("standard output: {e}"))
 }
 
 fn write_files(file: &str, folder: &Path) -> Result<(), String> {
@@ -81,5 +84,22 @@ fn number(name: &str, argument: &str) -> Result<u64, String> {
     match argument.parse() {
         Ok(number) if digits => Ok(number),
         _ => Err(format!("{name}: a decimal number from 0 to {} is needed here, not `{argument}`", u64::MAX)),
+    }
+}
+
+/// The text goes out as it is, so that it can be kept as a query; on a terminal its line is ended. A refusal is no
+/// query and goes to standard error.
+fn print_joined(folder: &Path, first: &str, second: &str) -> Result<bool, String> {
+    let [first, second] = [first, second].map(|file| load(Path::new(file)));
+    match join(&first?, &second?, &load(&folder.join("table"))?) {
+        Ok(text) => {
+            let end = if stdout().is_terminal() { "\n" } else { "" };
+            print(&(text + end))?;
+            Ok(true)
+        }
+        Err(refused) => {
+            eprint!("{refused}");
+            Ok(false)
+        }
     }
 }

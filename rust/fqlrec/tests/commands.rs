@@ -154,6 +154,76 @@ fn windows_and_needs_that_are_no_numbers() {
     }
 }
 
+/// A folder with a table of one flag and a text, and the two queries in files of it.
+fn joined(name: &str, first: &str, second: &str) -> PathBuf {
+    let folder = folder(name);
+    fs::write(folder.join("text"), "class P\n    On    boolean\n    Name  string\n").unwrap();
+    run(&folder, &["write", "text", "."]);
+    fs::write(folder.join("first"), first).unwrap();
+    fs::write(folder.join("second"), second).unwrap();
+    folder
+}
+
+#[test]
+fn join() {
+    let folder = joined("join", "On = TRUE OR On = NULL\n", "( Name = 'a' )\r\nor (Name = '\u{e9})')\n");
+    let term = |name: &str| format!("(On = TRUE OR On = NULL) AND (Name = '{name}')");
+    let expected = format!("{} OR {}", term("a"), term("\u{e9})"));
+    assert_eq!(run(&folder, &["join", ".", "first", "second"]), (0, expected.clone(), String::new()));
+
+    // What is printed is a query.
+    fs::write(folder.join("query"), &expected).unwrap();
+    let (status, out, _) = run(&folder, &["explain", "."]);
+    assert_eq!((status, out.as_str()), (0, "accepted\nnames On, Name\n0 included, 0 excluded, 0 failed\n"));
+    let expected = format!("({}) AND ({})", "On = TRUE OR On = NULL", "On = TRUE OR On = NULL");
+    assert_eq!(run(&folder, &["join", ".", "first", "first"]), (0, expected, String::new()));
+}
+
+/// Of the longest text nothing but the text is printed, so that it is no longer in a file.
+#[test]
+fn join_to_the_longest_text() {
+    let long = |bytes: usize| format!("Name = '{}'", "x".repeat(bytes - 9));
+    let folder = joined("join_to_the_longest_text", &long(4_078), "On = TRUE");
+    let (status, out, _) = run(&folder, &["join", ".", "first", "second"]);
+    assert_eq!((status, out.len()), (0, 4_096));
+    fs::write(folder.join("query"), out).unwrap();
+    assert_eq!(run(&folder, &["explain", "."]).0, 0);
+
+    fs::write(folder.join("first"), long(4_079)).unwrap();
+    let expected = "refused 43 at 0: both queries in one would have more than 64 comparisons or 4,096 bytes\n";
+    assert_eq!(run(&folder, &["join", ".", "first", "second"]), (1, String::new(), expected.to_owned()));
+}
+
+/// The first query that is refused is named, and the table where it is at fault.
+#[test]
+fn a_refused_join() {
+    let folder = joined("a_refused_join", "On = TRUE\nOR Of = TRUE", "On = TRUE AND");
+    let refused = |files: [&str; 2]| {
+        let (status, out, error) = run(&folder, &["join", ".", files[0], files[1]]);
+        assert_eq!((status, out.as_str()), (1, ""), "{files:?}");
+        error
+    };
+    let unknown = |name: &str| {
+        let words = "refused 20 at 13: the table has no such property";
+        format!("{words}\n{name} query, line 2, column 4:\n    OR Of = TRUE\n       ^\n")
+    };
+    assert_eq!(refused(["first", "second"]), unknown("first"));
+    fs::write(folder.join("good"), "On = TRUE").unwrap();
+    assert_eq!(refused(["first", "good"]), unknown("first"));
+    assert_eq!(refused(["good", "first"]), unknown("second"));
+    assert_eq!(
+        refused(["good", "second"]),
+        "refused 11 at 13: this is no token, or no query can have it here\n\
+         second query, line 1, column 14, the query's end:\n    On = TRUE AND\n                 ^\n"
+    );
+    fs::write(folder.join("table"), b"\x01\0\0\x02P\x02\0\x03\0On").unwrap();
+    let expected =
+        "refused 2 at 5: the table is longer than 8,192 bytes, or its record here is malformed or has a bad name\n\
+                    table, record 2, at byte 5:\n    record 0x0003 4F6E\n";
+    assert_eq!(refused(["good", "good"]), expected);
+    assert_eq!(refused(["first", "second"]), expected);
+}
+
 #[test]
 fn files_that_cannot_be_read_or_written() {
     let folder = folder("files_that_cannot_be_read_or_written");
@@ -162,15 +232,22 @@ fn files_that_cannot_be_read_or_written() {
         (&["show", "none"], "none/table: "),
         (&["explain", "none"], "none/query: "),
         (&["watch", "none", "3", "2"], "none/query: "),
+        (&["join", "none", "first", "second"], "first: "),
     ] {
         let (status, out, error) = run(&folder, arguments);
         assert_eq!((status, out.as_str()), (2, ""));
         assert!(error.starts_with(file), "{error}");
     }
     fs::write(folder.join("text"), TEXT).unwrap();
-    let (status, _, error) = run(&folder, &["write", "text", "text"]);
-    assert_eq!(status, 2);
-    assert!(error.starts_with("text: "), "{error}");
+    for (arguments, file) in [
+        (&["write", "text", "text"][..], "text: "),
+        (&["join", "none", "text", "second"], "second: "),
+        (&["join", "none", "text", "text"], "none/table: "),
+    ] {
+        let (status, out, error) = run(&folder, arguments);
+        assert_eq!((status, out.as_str()), (2, ""));
+        assert!(error.starts_with(file), "{error}");
+    }
 }
 
 #[test]
@@ -187,6 +264,10 @@ fn arguments_that_are_none() {
         &["watch", "a"],
         &["watch", "a", "3"],
         &["watch", "a", "3", "2", "1"],
+        &["join"],
+        &["join", "a"],
+        &["join", "a", "b"],
+        &["join", "a", "b", "c", "d"],
         &["read", "x"],
     ] {
         let (status, out, error) = run(&folder, arguments);

@@ -3,6 +3,7 @@
 
 pub mod cases;
 pub mod check;
+pub mod conjoin;
 pub mod datetime;
 pub mod evaluate;
 pub mod examples;
@@ -26,6 +27,7 @@ pub mod value;
 pub mod watch;
 
 pub use check::check;
+pub use conjoin::{conjoin, ConjoinRefusal};
 pub use evaluate::{bound, evaluate, Answer, Prepared};
 pub use fault_text::{fault_text, FaultText};
 pub use mark::{mark, Totals};

@@ -8,7 +8,7 @@ pub mod pairs;
 use std::fmt::Debug;
 
 use reference::cases::call;
-use reference::{Answer, FaultText, Refusal, Totals, WatchTotals};
+use reference::{Answer, ConjoinRefusal, FaultText, Refusal, Totals, WatchTotals};
 
 /// Verdict and steps, or number and place.
 pub type Found = Result<Answer, Refusal>;
@@ -78,6 +78,29 @@ pub fn agree_on_watch(
 /// Window and need, and a line of a test with the query, table, run and marks of a watch.
 pub fn shown_watch(slices: [&[u8]; 4], [window, need]: [u64; 2]) -> String {
     format!("{need} of {window}: {}", call("agree_on_watch", &slices))
+}
+
+/// The length of the text or the refusal that both give, and the buffer that both leave behind.
+pub fn agree_on_conjoin(
+    first: &[u8],
+    second: &[u8],
+    table: &[u8],
+    buffer: &[u8],
+) -> (Result<usize, ConjoinRefusal>, Vec<u8>) {
+    let (mut found, mut expected) = (buffer.to_vec(), buffer.to_vec());
+    let length = fql::conjoin(first, second, table, &mut found).map_err(conjoin_refusal);
+    let expected_length = reference::conjoin(first, second, table, &mut expected);
+    let shown = || call("agree_on_conjoin", &[first, second, table, buffer]);
+    same((length, found), (expected_length, expected), shown)
+}
+
+fn conjoin_refusal(r: fql::ConjoinRefusal) -> ConjoinRefusal {
+    let query = match r.at_fault {
+        fql::AtFault::Neither => 0,
+        fql::AtFault::First => 1,
+        fql::AtFault::Second => 2,
+    };
+    ConjoinRefusal { query, refusal: refusal(r.refusal) }
 }
 
 /// The text at a fault as both show it.

@@ -30,17 +30,19 @@ fn the_wrapper_declares_what_the_source_does() {
 }
 
 #[test]
-fn there_are_five_functions_and_five_structs() {
+fn there_are_six_functions_and_six_structs() {
     let source = of_rattle(SOURCE).unwrap();
     let names = |text: &str| text.split(' ').map(str::to_owned).collect::<Vec<_>>();
     let functions: Vec<String> = source.functions.iter().map(|f| f.0.clone()).collect();
-    assert_eq!(functions, names("fql_check fql_evaluate fql_mark fql_watch fql_fault_text"));
+    assert_eq!(functions, names("fql_check fql_evaluate fql_mark fql_watch fql_conjoin fql_fault_text"));
     let structs: Vec<String> = source.structs.iter().map(|s| s.0.clone()).collect();
-    assert_eq!(structs, names("FqlRefusal FqlAnswer FqlTotals FqlWatched FqlPart"));
+    assert_eq!(structs, names("FqlRefusal FqlAnswer FqlTotals FqlWatched FqlConjoined FqlPart"));
     let parameters = |n: usize| source.functions[n].1.iter().map(|p| p.0.clone()).collect::<Vec<_>>();
     let of_mark = "query query_length table table_length run run_length marks marks_length";
     assert_eq!(parameters(2), names(of_mark));
     assert_eq!(parameters(3), names(&of_mark.replace("marks marks_length", "window need marks marks_length")));
+    let of_conjoin = "first first_length second second_length table table_length buffer buffer_length";
+    assert_eq!(parameters(4), names(of_conjoin));
 }
 
 fn edited(text: &str, old: &str, new: &str) -> String {
@@ -67,6 +69,13 @@ fn a_changed_header_is_noticed() {
         ("fql_watched fql_watch(", "fql_answer fql_watch("),
         ("uint64_t window, uint64_t need,", "uint64_t need, uint64_t window,"),
         ("uint64_t window, uint64_t need,", "size_t window, size_t need,"),
+        ("uint64_t query;\n    uint64_t length;", "uint64_t length;\n    uint64_t query;"),
+        ("uint8_t *buffer", "const uint8_t *buffer"),
+        ("fql_conjoined fql_conjoin(", "fql_watched fql_conjoin("),
+        (
+            "const uint8_t *first, size_t first_length, const uint8_t *second, size_t second_length",
+            "const uint8_t *second, size_t second_length, const uint8_t *first, size_t first_length",
+        ),
         ("uint64_t number, uint64_t place);", "uint64_t place, uint64_t number);"),
         ("uint64_t number, uint64_t place);", "uint64_t number);"),
         ("uint64_t number, uint64_t place);", "uint64_t number, uint64_t place);\nfql_part fql_more(uint64_t number);"),
@@ -87,6 +96,9 @@ fn a_changed_wrapper_is_noticed() {
         ("-> FqlWatched", "-> FqlAnswer"),
         ("window: u64", "window: usize"),
         ("pub ones: u64,\n    pub zeros: u64,", "pub zeros: u64,\n    pub ones: u64,"),
+        ("pub query: u64,\n    pub length: u64,", "pub length: u64,\n    pub query: u64,"),
+        ("buffer: *mut u8", "buffer: *const u8"),
+        ("-> FqlConjoined", "-> FqlWatched"),
         ("pub fn fql_check", "pub fn fql_checks"),
     ] {
         assert!(compare(SOURCE, of_rust(&edited(RUST, old, new))).is_err(), "{old}\n{new}");
@@ -100,6 +112,8 @@ fn a_changed_source_is_noticed() {
         ("marks: &mut [u8]", "marks: &'a [u8]"),
         ("pub length: u64", "pub length: u32"),
         ("window: u64,\n    need: u64", "need: u64,\n    window: u64"),
+        ("first: &'a [u8],\n    second: &'a [u8]", "second: &'a [u8],\n    first: &'a [u8]"),
+        ("buffer: &mut [u8]", "buffer: &'a [u8]"),
         ("#[repr(C)]\npub struct FqlPart", "pub struct FqlPart"),
     ] {
         let source = edited(SOURCE, old, new);
@@ -184,6 +198,8 @@ fn a_changed_number_is_noticed() {
         ("FQL_FAILED = 255", "FQL_FAILED = 2"),
         ("FQL_RUN = 40", "FQL_RUN = 41"),
         ("FQL_WINDOW = 42", "FQL_WINDOW = 43"),
+        ("FQL_CONJUNCTION_SIZE = 43", "FQL_CONJUNCTION_SIZE = 44"),
+        ("FQL_CONJUNCTION_BUFFER = 44", "FQL_BUFFER = 44"),
     ] {
         assert_ne!(sorted(constants(&edited(HEADER, old, new))), sorted(numbers()), "{new}");
     }

@@ -2,6 +2,7 @@
 //! the case was made, what the answer has to be.
 
 mod comparison;
+pub mod conjoin;
 mod datetime;
 mod limit;
 mod literal;

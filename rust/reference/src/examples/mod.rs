@@ -1,6 +1,7 @@
 //! Examples with the answers written out by hand: those of 01 and of DSP0212, and for each rule inputs on both sides of
 //! it. The second evaluator and the engine are both held to them.
 
+pub mod conjunctions;
 pub mod datetimes;
 pub mod dsp0212;
 pub mod fault_texts;
