@@ -121,7 +121,7 @@ const SUMMER: &str = "20050701000000.000000+000";
 /// Microseconds, as a peer without datetimes would hold a timestamp.
 pub fn moment(timestamp: &str) -> i128 {
     match parse(timestamp.as_bytes()) {
-        Some(Datetime::Timestamp(moment)) => moment,
+        Some(Datetime::Timestamp(span)) if span.lowest == span.highest => span.lowest,
         other => panic!("{timestamp} reads as {other:?}"),
     }
 }

@@ -2,6 +2,7 @@
 //! before anything is printed.
 
 mod clock;
+mod conjoin;
 mod data;
 mod growth;
 #[cfg(re2)]
@@ -44,6 +45,7 @@ fn measure() {
     operations::mark(&large, "large instances", &filters());
     operations::mark(&late, "instances of 128 integers of which the filter names the last", &filters_of_temp());
     watch::run(&small);
+    conjoin::run();
     #[cfg(re2)]
     like::run();
     growth::run();

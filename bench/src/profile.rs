@@ -1,6 +1,6 @@
-//! One call of mark, one of watch and nothing else, for a profiler: `bench profile KIND` over the small setting,
-//! `bench profile KIND large` over the large one and, for kinds that name `Temp` alone, `bench profile KIND late`.
-//! Callgrind collects either call with `--toggle-collect=fql_mark` or `--toggle-collect=fql_watch`.
+//! One call of mark, one of watch, one of conjoin and nothing else, for a profiler: `bench profile KIND` over the small
+//! setting, `bench profile KIND large` over the large one and, for kinds that name `Temp` alone, `bench profile KIND late`.
+//! Callgrind collects one of the calls with `--toggle-collect=fql_mark`, `fql_watch` or `fql_conjoin`.
 
 use crate::data::{filters, Setting};
 
@@ -16,4 +16,6 @@ pub fn run(kind: &str, setting: &str) {
     println!("{totals:?}");
     let totals = fql::watch(filter.fql.as_bytes(), &setting.table, &setting.run, 64, 32, &mut marks).unwrap();
     println!("{totals:?}");
+    let query = filter.fql.as_bytes();
+    println!("{:?}", fql::conjunction(query, query, &setting.table).map(|text| text.len()));
 }

@@ -15,11 +15,12 @@ pub fn run() {
 
 fn print() {
     println!("\nstack: bytes below the caller ({MARGIN} stands for as much or less)");
-    println!("{:46}{:>8}{:>10}{:>8}{:>8}{:>12}", "filter", "check", "evaluate", "mark", "watch", "fault text");
+    print!("{:46}{:>8}{:>10}{:>8}{:>8}", "filter", "check", "evaluate", "mark", "watch");
+    println!("{:>12}{:>10}", "fault text", "conjoin");
     let setting = Setting::large(4);
     let length = usize::from(u16::from_le_bytes([setting.run[0], setting.run[1]]));
     let instance = &setting.run[4..4 + length];
-    let mut marks = setting.marks();
+    let (mut marks, mut buffer) = (setting.marks(), [0; fql::LONGEST_QUERY]);
     for (name, query) in filters() {
         let query = query.as_bytes();
         assert_eq!(fql::check(query, &setting.table), Ok(()));
@@ -29,8 +30,10 @@ fn print() {
             used(|| fql::mark(query, &setting.table, &setting.run, &mut marks).unwrap().included),
             used(|| fql::watch(query, &setting.table, &setting.run, 64, 32, &mut marks).unwrap().ones),
             used(|| fql::fault_text(query, &setting.table, 11, 3).bytes().len() as u64),
+            used(|| fql::conjoin(query, query, &setting.table, &mut buffer).unwrap() as u64),
         ];
-        println!("{name:46}{:>8}{:>10}{:>8}{:>8}{:>12}", used[0], used[1], used[2], used[3], used[4]);
+        print!("{name:46}{:>8}{:>10}{:>8}{:>8}", used[0], used[1], used[2], used[3]);
+        println!("{:>12}{:>10}", used[4], used[5]);
     }
 }
 
