@@ -106,10 +106,11 @@ pub counted-query : (q : List ℕ) {b : QueryStart} → b ≡ queryStart (scan q
 unfolding query
 counted-query q e f = f ∙ ap (λ (x : QueryStart). comparisons (queryFrom 64 (scan q) (x .grouped) (x .token))) e
 
-further-few : (n : ℕ) (s : Scan) (grouped : Bool) (t : Token) → comparisons (queryFrom n s grouped t) ≤ n
+-- no more than are allowed
+pub comparisons-few : (n : ℕ) (s : Scan) (grouped : Bool) (t : Token) → comparisons (queryFrom n s grouped t) ≤ n
 unfolding queryFrom comparisons size listed.before
-further-few zero s grouped t = omega arith
-further-few (suc n) s grouped t = go (nextComparison s grouped t) (λ u. further-few n s grouped u)
+comparisons-few zero s grouped t = omega arith
+comparisons-few (suc n) s grouped t = go (nextComparison s grouped t) (λ u. comparisons-few n s grouped u)
   where
     follows : (c : Comparison) (j : Join) (r : Query) → comparisons r ≤ n → comparisons (listed.before c j r) ≤ suc n
     follows c j (bad f) h = omega arith
@@ -126,7 +127,7 @@ further-few (suc n) s grouped t = go (nextComparison s grouped t) (λ u. further
 
 pub comparisons-bounded : (q : List ℕ) → comparisons (query q) ≤ 64
 unfolding query
-comparisons-bounded q = further-few 64 (scan q) (queryStart (scan q) .grouped) (queryStart (scan q) .token)
+comparisons-bounded q = comparisons-few 64 (scan q) (queryStart (scan q) .grouped) (queryStart (scan q) .token)
 
 -- ---- the numbers multiplied, and their sum
 module _ (q p : List ℕ) {m n : ℕ} (terms : m ≡ count (termsOf p)) (each : n ≡ comparisons (query q)) where

@@ -9,9 +9,8 @@ use filter::check::check;
 use filter::refusal::Checked;
 use text_writer::buffer::write_text;
 ghost use mathlib.Core.Path.{_≡_};
-ghost use mathlib.Core.List.{_++_};
 ghost use Prim.Native.Nat.{_≤_};
-ghost use lib.ListN.{length, drop};
+ghost use lib.ListN.{length};
 ghost use Rattle.conjunction.specs.Conjoin as Conjoin;
 
 fn refused(cause: ConjoinCause) -> Conjoined

@@ -25,7 +25,8 @@ use Rattle.query_text.specs.declared.join.JoinResult.the-variants.{HasJoin, NoJ
 use Rattle.query_text.specs.declared.query.NextResult.{NextResult}
 use Rattle.query_text.specs.declared.query.NextResult.the-variants.{HasNext, NoNext}
 use Rattle.query_text.specs.Query.{Comparisons, only, more, Query, bad, good, before, lastJoin, atEnd, openGroup, outerBy, afterGroup, outer, joinBy, joinAfter, nextOf, nextBy, nextComparison, queryFrom}
-use Rattle.conjunction.specs.Conjunction.{size}
+use Rattle.conjunction.specs.Conjunction.{size, comparisons}
+use Rattle.conjunction.proofs.Counting.{comparisons-few}
 
 -- comparisons, and others after a join
 unfoldable pub chainTo : Comparisons → Join → Comparisons → Comparisons
@@ -211,15 +212,8 @@ module _ (s : Scan) where
 
   -- no more than it takes
   pub few : (n : ℕ) (g : Bool) (t : Token) (L : Comparisons) → queryFrom n s g t ≡ good L → size L ≤ n
-  unfolding queryFrom size
-  few zero g t L e = let z : _≡_ {A = ℕ} 0 1 = cc in absurd (omega arith)
-  few (suc n) g t L e = go (nextComparison s g t) (sym (one-step n g t) ∙ e) (few n g)
-    where
-      go : (x : NextResult) → continued n g x ≡ good L → ((u : Token) (L : Comparisons) → queryFrom n s g u ≡ good L → size L ≤ n) → size L ≤ suc n
-      go (NoNext f) h again = let z : _≡_ {A = ℕ} 0 1 = cc in absurd (omega arith)
-      go (HasNext c Last u) h again = let z : L ≡ only c = sym (good-only h) in rw z (omega arith)
-      go (HasNext c (Inner o) u) h again = let b = before-good c (Inner o) (queryFrom n s g u) L h in rw (b .2) (omega (arith, again u (b .0) (b .1)))
-      go (HasNext c (Outer o) u) h again = let b = before-good c (Outer o) (queryFrom n s g u) L h in rw (b .2) (omega (arith, again u (b .0) (b .1)))
+  unfolding comparisons
+  few n g t L e = let z : comparisons (queryFrom n s g t) ≡ size L = ap comparisons e in omega (arith, comparisons-few n s g t, z)
 
   -- and the same by a reader that takes more
   pub wider : (n m : ℕ) (g : Bool) (t : Token) (L : Comparisons) → n ≤ m → queryFrom n s g t ≡ good L → queryFrom m s g t ≡ good L

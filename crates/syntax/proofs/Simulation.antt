@@ -13,7 +13,6 @@ use Rattle.token.specs.declared.Reserved.the-variants as Reserved
 use Rattle.token.specs.declared.Punctuation.the-variants.{Close, OpenIndex, CloseIndex, OpenList, CloseList, Comma, Dot}
 use Rattle.token.specs.declared.TokenKind.{TokenKind}
 use Rattle.token.specs.declared.TokenKind.the-variants.{End, NoToken, Name, Word, Text, Symbol}
-use Rattle.token.specs.declared.TokenKind.the-variants as TokenKind
 use Rattle.token.specs.declared.Token.{Token}
 use Rattle.terminal.specs.declared.quantifier.Quantifier.{Quantifier}
 use Rattle.terminal.specs.declared.quantifier.Quantifier.the-variants as Quantifier
