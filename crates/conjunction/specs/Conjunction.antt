@@ -18,7 +18,7 @@ unfoldable pub each : {A B : Type 0} → (A → B) → Chain A → Chain B
 each f (one a) = one (f a)
 each f (then a r) = then (f a) (each f r)
 
--- a term before each of the others' groups; then each term of the first so
+-- one term with each term of the second, its groups first; and so each term of the first
 unfoldable pub products : {A : Type 0} → Chain (Chain A) → Chain (Chain A) → Chain (Chain A)
 products (one a) s = each (chained a) s
 products (then a r) s = chained (each (chained a) s) (products r s)
