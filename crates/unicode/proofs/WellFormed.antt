@@ -255,16 +255,8 @@ ill-formed-at s = from-at (illFormedStep s) WellFormed (length s) (λ at p q h. 
     one at p q h true e = two at p q h (ltb-true at (length s) e) (eqb (sequenceAt s at) 0) refl
     one at p q h false e = refl
 
-module _ (s : List ℕ) (at : ℕ) (left : firstIllFormed s ≡ illFormedFrom s at) where
-  module _ (inside : at < length s) {n : ℕ} (sequence : n ≡ sequenceAt s at) where
-    pub ill-formed-here : n ≡ 0 → IllFormed at ≡ firstIllFormed s
-    ill-formed-here h = sym (left ∙ ill-formed-at s at ∙ rw (lt-ltb _ _ inside, ← sequence, eq-eqb _ _ h))
-
-    pub ill-formed-next : (n ≡ 0 → ⊥) → firstIllFormed s ≡ illFormedFrom s (at + n)
-    ill-formed-next h = left ∙ ill-formed-at s at ∙ rw (lt-ltb _ _ inside, ← sequence, ne-eqb _ _ h)
-
-  pub well-formed-end : length s ≤ at → WellFormed ≡ firstIllFormed s
-  well-formed-end h = sym (left ∙ ill-formed-at s at ∙ rw (le-ltb _ _ h))
+pub well-formed-end : (s : List ℕ) (at : ℕ) → firstIllFormed s ≡ illFormedFrom s at → length s ≤ at → WellFormed ≡ firstIllFormed s
+well-formed-end s at left h = sym (left ∙ ill-formed-at s at ∙ rw (le-ltb _ _ h))
 
 -- in a well-formed text a sequence starts at each place where one should, and what follows it is well-formed
 pub well-formed-next : (s : List ℕ) (at : ℕ) → illFormedFrom s at ≡ WellFormed → at < length s

@@ -1,4 +1,5 @@
 pub mod WellFormed
+pub mod Blocks
 pub mod Lead
 pub mod Scalar
 pub mod Characters

@@ -1,10 +1,10 @@
 use borrow.Author.Needs.{needs}
-use Rattle.unicode.proofs.WellFormed as law
-use Rattle.unicode.specs.WellFormed.{firstIllFormed, illFormedFrom}
-use mathlib.Core.Path.{_≡_, refl}
-use lib.ListN.{length}
 use Prim.Native.Nat.{_-_}
-use native.Mathlib.Omega.{arith}
+use lib.ListN.{length}
+use mathlib.Core.Path.{_≡_, refl}
+use Rattle.unicode.specs.WellFormed.{firstIllFormed, illFormedFrom}
+use Rattle.unicode.proofs.WellFormed.{well-formed-end}
+use Rattle.unicode.proofs.Blocks as law
 use Rattle.unicode.proofs.text.check_utf8.Statement.{statement}
 use Rattle.unicode.proofs.text.check_utf8.Tie as tie
 
@@ -17,23 +17,20 @@ abbrev μ-loop : tie.MeasureT-loop
 loop-holds : tie.Need-loop-holds Inv-loop μ-loop
 loop-holds c = refl
 
-sequence-at-requires : tie.Need-sequence-at-requires Inv-loop μ-loop
-sequence-at-requires c κs = search needs
+pass-block-requires : tie.Need-pass-block-requires Inv-loop μ-loop
+pass-block-requires c κs = search needs
 
 returns : tie.Need-returns Inv-loop μ-loop
-returns c = search law.ill-formed-here
-
-add-at : tie.Need-add-at Inv-loop μ-loop
-add-at c = omega (arith, law.sequence-fits (c .before .before .before .before .before .args .s .now) (c .before .before .before .loop .at), c .before .sequence-at .ensures)
+returns c = search law.block-stays
 
 loop-less : tie.Need-loop-less Inv-loop μ-loop
-loop-less c = omega (arith, law.sequence-fits (c .before .before .before .before .before .args .s .now) (c .before .before .before .loop .at), c .before .sequence-at .ensures)
+loop-less c = search law.block-moves
 
 loop-again : tie.Need-loop-again Inv-loop μ-loop
-loop-again c = search law.ill-formed-next
+loop-again c = search law.block-next
 
 returns-2 : tie.Need-returns-2 Inv-loop μ-loop
-returns-2 c = search law.well-formed-end
+returns-2 c = search well-formed-end
 
 pub check-utf8-spec : {M : Type 1} → statement M
 check-utf8-spec =
@@ -42,9 +39,8 @@ check-utf8-spec =
     Inv-loop
     μ-loop
     loop-holds
-    sequence-at-requires
+    pass-block-requires
     returns
-    add-at
     loop-less
     loop-again
     returns-2)
