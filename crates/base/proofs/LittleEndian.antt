@@ -9,12 +9,27 @@ use lib.ListN.{length, getD, drop}
 use lib.IntN.{pos, negsuc, _-ℤ_}
 use borrow.Author.Tests.{lt-ltb, le-ltb}
 use Rattle.base.specs.LittleEndian.{unsigned, twosComplement}
-use Rattle.base.proofs.Lists.{left-next}
+use Rattle.base.proofs.Lists.{left-next, at-end}
 
 -- what is left at `i`, by what is left after it
 pub unsigned-next : (s : List ℕ) (i : ℕ) → i < length s → unsigned (drop i s) ≡ getD s i 0 + 256 * unsigned (drop (i + 1) s)
 unfolding unsigned
 unsigned-next s i h = rw left-next
+
+-- eight bytes, each in its place
+pub eight-bytes : (s : List ℕ) → length s ≡ 8
+    → unsigned s
+    ≡ getD s 0 0 + getD s 1 0 * 0x100 + getD s 2 0 * 0x10000 + getD s 3 0 * 0x1000000 + getD s 4 0 * 0x100000000 + getD s 5 0 * 0x10000000000
+    + getD s 6 0 * 0x1000000000000 + getD s 7 0 * 0x100000000000000
+unfolding unsigned
+eight-bytes s h =
+    omega (arith, byte 0 (omega arith), byte 1 (omega arith), byte 2 (omega arith), byte 3 (omega arith), byte 4 (omega arith), byte 5 (omega arith), byte 6 (omega arith), byte 7 (omega arith), nothing)
+  where
+    byte : (i : ℕ) → i < 8 → unsigned (drop i s) ≡ getD s i 0 + 256 * unsigned (drop (i + 1) s)
+    byte i l = unsigned-next s i (omega arith)
+
+    nothing : unsigned (drop 8 s) ≡ 0
+    nothing = at-end unsigned s 8 (omega arith)
 
 -- one byte more: the bound for `k` bytes gives the bound for `suc k`
 pub one-more : (v b k : ℕ) → v < 256 ^ k → b < 256 → v * 256 + b < 256 ^ suc k

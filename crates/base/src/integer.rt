@@ -14,11 +14,29 @@ pub enum Whole {
     NegSuc(u64),
 }
 
+// Eight bytes, the width of most: a sum of this form is one load.
+fn word_of(s: &[u8]) -> u64
+    requires { ⌜ length (now s) ≡ 8 ⌝ }
+    ensures { λ r. ⌜ (r ≡ unsigned (now (s .entry))) × (r < 256 ^ 8) ⌝ }
+{
+    bytes::widen(s[0])
+        + bytes::widen(s[1]) * 0x100
+        + bytes::widen(s[2]) * 0x1_0000
+        + bytes::widen(s[3]) * 0x100_0000
+        + bytes::widen(s[4]) * 0x1_0000_0000
+        + bytes::widen(s[5]) * 0x100_0000_0000
+        + bytes::widen(s[6]) * 0x1_0000_0000_0000
+        + bytes::widen(s[7]) * 0x100_0000_0000_0000
+}
+
 // One function for every width: the bytes are taken from the last one down.
 fn unsigned_of(s: &[u8]) -> u64
     requires { ⌜ length (now s) ≤ 8 ⌝ }
     ensures { λ r. ⌜ (r ≡ unsigned (now (s .entry))) × (r < 256 ^ length (now (s .entry))) ⌝ }
 {
+    if s.len() == 8 {
+        return word_of(s);
+    }
     let mut v: u64 = 0;
     let mut i = s.len();
     while 0 < i {
@@ -33,6 +51,9 @@ fn all_ones(n: usize) -> u64
     requires { ⌜ n ≤ 8 ⌝ }
     ensures { λ r. ⌜ r + 1 ≡ 256 ^ n ⌝ }
 {
+    if n == 8 {
+        return 0xffff_ffff_ffff_ffff;
+    }
     let mut v: u64 = 0;
     let mut i = 0;
     while i < n {

@@ -1,13 +1,13 @@
 -- One law for each way out of the functions of src/.
 use Prim.Native.Nat.{ℕ, suc, _+_, _-_, _≤_, _<_}
-use mathlib.Core.List.{List, [], _∷_}
+use mathlib.Core.List.{List, [], _∷_, _++_}
 use mathlib.Core.Bool.{Bool, true, false, not, _&&_, _||_, or-assoc, or-false}
 use mathlib.Core.Path.{_≡_, refl, sym, ap, _∙_}
 use native.Mathlib.Omega.{arith}
 use lib.ListN.{length, getD, take, drop, length-take, drop-of-length-le}
-use lib.Seq.{take-all}
+use lib.Seq.{take-all, take-suc, length-take-le}
 use lib.Dec.{eqb}
-use borrow.Author.Tests.{le-leb, lt-leb, eq-eqb, ne-eqb, eqb-true, eqb-false, not-true, not-false}
+use borrow.Author.Tests.{le-leb, lt-leb, eqb-true, eqb-false, not-true, not-false}
 use Rattle.base.specs.Pick.{pick}
 use Rattle.base.specs.Part.{part}
 use Rattle.base.specs.Range.{within}
@@ -96,23 +96,44 @@ same-lengths [] (y ∷ ys) h = refl
 same-lengths (x ∷ xs) [] h = refl
 same-lengths (x ∷ xs) (y ∷ ys) h = rw (← same-lengths xs ys (λ e. h (ap suc e))) (sym (and-false (eqb (lower x) (lower y))))
 
-module _ (a b : List ℕ) (l : length a ≡ length b) (i : ℕ) (w : Bool) (inv : w ≡ sameName (drop i a) (drop i b)) where
-  pub same-end : length a ≤ i → true ≡ w
+and-true : (t : Bool) → (t && true) ≡ t
+and-true true = refl
+and-true false = refl
+
+-- two names of one length, by their last bytes
+same-last : (xs ys : List ℕ) (x y : ℕ) → length xs ≡ length ys → sameName (xs ++ (x ∷ [])) (ys ++ (y ∷ [])) ≡ (sameName xs ys && eqb (lower x) (lower y))
+unfolding sameName
+same-last [] [] x y l = and-true (eqb (lower x) (lower y))
+same-last [] (v ∷ ys) x y l = absurd (omega arith)
+same-last (u ∷ xs) [] x y l = absurd (omega arith)
+same-last (u ∷ xs) (v ∷ ys) x y l = rw (same-last xs ys x y (omega arith)) (and-and (eqb (lower u) (lower v)) (sameName xs ys) (eqb (lower x) (lower y)))
+  where
+    and-and : (p q r : Bool) → (p && (q && r)) ≡ ((p && q) && r)
+    and-and true q r = refl
+    and-and false q r = refl
+
+pub same-start : (a b : List ℕ) → length a ≡ length b → sameName a b ≡ sameName (take (length a) a) (take (length a) b)
+same-start a b l = rw (take-all (length a) a (omega arith), take-all (length a) b (omega arith))
+
+module _ (a b : List ℕ) (l : length a ≡ length b) (i : ℕ) (w : Bool) (inv : w ≡ sameName (take i a) (take i b)) where
+  pub same-end : i ≤ 0 → true ≡ w
   unfolding sameName
-  same-end h = let k : length b ≤ i = omega arith in sym (inv ∙ rw (drop-of-length-le a h, drop-of-length-le b k))
+  same-end h = let z : i ≡ 0 = omega arith in sym (inv ∙ rw z)
 
-  module _ (h : i < length a) where
-    other : i < length b
-    other = omega arith
+  module _ (h : 0 < i) (k : i ≤ length a) {r : Bool} (e : r ≡ eqb (lower (getD a (i - 1) 0)) (lower (getD b (i - 1) 0))) where
+    last : w ≡ (sameName (take (i - 1) a) (take (i - 1) b) && r)
+    last =
+        let s : i ≡ suc (i - 1) = omega arith in
+        let m : length (take (i - 1) a) ≡ length (take (i - 1) b) = rw (length-take-le (i - 1) a (omega arith), length-take-le (i - 1) b (omega arith)) in
+        inv
+        ∙ ap (λ (n : ℕ). sameName (take n a) (take n b)) s
+        ∙ rw (take-suc a (i - 1) 0 (omega arith), take-suc b (i - 1) 0 (omega arith), e) (same-last (take (i - 1) a) (take (i - 1) b) (getD a (i - 1) 0) (getD b (i - 1) 0) m)
 
-    module _ (x y : ℕ) (e : x ≡ lower (getD a i 0)) (f : y ≡ lower (getD b i 0)) where
-      pub same-not : (x ≡ y → ⊥) → false ≡ w
-      unfolding sameName
-      same-not g = sym (inv ∙ rw (left-next a i h, left-next b i other, ← e, ← f, ne-eqb x y g))
+    pub same-not : not r ≡ true → false ≡ w
+    same-not g = sym (last ∙ rw (not-true r g) (and-false (sameName (take (i - 1) a) (take (i - 1) b))))
 
-      pub same-next : x ≡ y → w ≡ sameName (drop (i + 1) a) (drop (i + 1) b)
-      unfolding sameName
-      same-next g = inv ∙ rw (left-next a i h, left-next b i other, ← e, ← f, eq-eqb x y g)
+    pub same-next : not r ≡ false → w ≡ sameName (take (i - 1) a) (take (i - 1) b)
+    same-next g = last ∙ rw (not-false r g) (and-true (sameName (take (i - 1) a) (take (i - 1) b)))
 
 -- the nine reserved words, tried one after the other
 pub reserved-any : (s : List ℕ)

@@ -1,5 +1,6 @@
 // Names, and the words that FQL reserves.
 ghost use mathlib.Core.Path.{_≡_};
+ghost use lib.Dec.{eqb};
 ghost use Rattle.record.specs.Name.{letter, nameByte, validName, lower, sameName};
 ghost use Rattle.record.specs.Reserved.{isReserved};
 use base::bytes::in_range;
@@ -54,19 +55,29 @@ pub fn lower_of(b: u8) -> u8
     b
 }
 
-// Whether two names are the same, case ignored.
+// Whether two bytes are the same, case ignored; most are the same as they stand.
+fn same_byte(x: u8, y: u8) -> bool
+    ensures { λ r. ⌜ r ≡ eqb (lower x) (lower y) ⌝ }
+{
+    if x == y {
+        return true;
+    }
+    lower_of(x) == lower_of(y)
+}
+
+// Whether two names are the same, case ignored. The last bytes come first: names of one length are mostly alike at their start.
 pub fn same_name(a: &[u8], b: &[u8]) -> bool
     ensures { λ r. ⌜ r ≡ sameName (now (a .entry)) (now (b .entry)) ⌝ }
 {
     if a.len() != b.len() {
         return false;
     }
-    let mut i = 0;
-    while i < a.len() {
-        if lower_of(a[i]) != lower_of(b[i]) {
+    let mut i = a.len();
+    while 0 < i {
+        i -= 1;
+        if !same_byte(a[i], b[i]) {
             return false;
         }
-        i += 1;
     }
     true
 }

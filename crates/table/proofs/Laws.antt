@@ -4,7 +4,7 @@ use mathlib.Core.List.{List, [], _∷_, _++_}
 use mathlib.Core.Bool.{Bool, true, false, not}
 use mathlib.Core.Path.{_≡_, sym, ap, _∙_}
 use native.Mathlib.Omega.{arith}
-use lib.ListN.{length, length-append}
+use lib.ListN.{length, take, set, length-append}
 use borrow.Author.Tests.{lt-ltb, le-ltb, not-true, not-false}
 use Rattle.base.specs.Part.{part}
 use Rattle.record.specs.Record.{recordAt, records}
@@ -21,7 +21,9 @@ use Rattle.table.specs.declared.lookup.Found.{Found}
 use Rattle.table.specs.declared.lookup.Found.the-variants.{Property, Absent}
 use Rattle.table.specs.Table.{malformedAt, isClass, isProperty, properties, tableReading}
 use Rattle.table.specs.Properties.{className, firstProperty, namesBefore, findIn}
+use Rattle.table.specs.Hash.{hashOf, hashesOf}
 use Rattle.table.proofs.Before.{before-none, before-next}
+use Rattle.table.proofs.Hashes.{hashes-set}
 
 -- a name among those before a place
 module _ (t name : List ℕ) (stop at : ℕ) (w : Bool) (inv : w ≡ among name (namesBefore t stop (records t at))) where
@@ -38,9 +40,9 @@ module _ (t name : List ℕ) (stop at : ℕ) (w : Bool) (inv : w ≡ among name 
     unfolding among namesBefore
     used-end f = sym (inv ∙ rw (records-end t at (sym e ∙ f)))
 
-    module _ (kind start len next : ℕ) (f : r ≡ Whole kind start len next) (n b : List ℕ) (i : n ≡ name) (g : b ≡ part t start len) (x : Bool) (y : x ≡ sameName n b) where
+    module _ (kind start len next : ℕ) (f : r ≡ Whole kind start len next) (b : List ℕ) (g : b ≡ part t start len) (x : Bool) (y : x ≡ sameName name b) where
       told : x ≡ sameName name (part t start len)
-      told = y ∙ rw (i, g)
+      told = y ∙ rw g
 
       pub used-found : x ≡ true → true ≡ w
       unfolding among namesBefore
@@ -80,14 +82,17 @@ module _ (t : List ℕ) (names : List (List ℕ)) (at count : ℕ) (size : count
       unfolding properties
       properties-bad z x y = y ∙ sym (stands ∙ rw (lt-ltb (length names) 128 few, ← judged, not-true p z))
 
-      module _ (z : not p ≡ false) (u : Bool) (v : u ≡ among (part t start len) names) where
-        pub properties-twice : u ≡ true → Fault NameTwice at ≡ w
+      module _ (z : not p ≡ false) (u : Bool) (v : u ≡ among b names) where
+        used : u ≡ among (part t start len) names
+        used = v ∙ rw g
+
+        pub properties-twice : u ≡ true → (x : TableReading) → x ≡ Fault NameTwice at → x ≡ w
         unfolding properties
-        properties-twice a = sym (stands ∙ rw (lt-ltb (length names) 128 few, ← judged, not-false p z, ← v, a))
+        properties-twice a x y = y ∙ sym (stands ∙ rw (lt-ltb (length names) 128 few, ← judged, not-false p z, ← used, a))
 
         pub properties-next : u ≡ false → w ≡ properties t (names ++ (part t start len ∷ [])) (records t next)
         unfolding properties
-        properties-next a = stands ∙ rw (lt-ltb (length names) 128 few, ← judged, not-false p z, ← v, a)
+        properties-next a = stands ∙ rw (lt-ltb (length names) 128 few, ← judged, not-false p z, ← used, a)
 
 -- the same along the names before the place
 pub properties-start : (t : List ℕ) (first : ℕ) → properties t [] (records t first) ≡ properties t (namesBefore t first (records t first)) (records t first)
@@ -95,6 +100,10 @@ properties-start t first = let h : first ≤ first = omega arith in rw (before-n
 
 pub count-start : (t : List ℕ) (first : ℕ) → 0 ≡ length (namesBefore t first (records t first))
 count-start t first = let h : first ≤ first = omega arith in rw (before-none t first first h)
+
+pub hashes-start : (t : List ℕ) (first : ℕ) (hashes : List ℕ) → take 0 hashes ≡ hashesOf (namesBefore t first (records t first))
+unfolding hashesOf
+hashes-start t first hashes = let h : first ≤ first = omega arith in rw (before-none t first first h)
 
 module _ (t : List ℕ) (first at : ℕ) (reach : Reaches t first at) (r : RecordAt) (e : r ≡ recordAt t at) (kind start len next : ℕ) (f : r ≡ Whole kind start len next) where
   pub walked : Reaches t first next
@@ -106,6 +115,11 @@ module _ (t : List ℕ) (first at : ℕ) (reach : Reaches t first at) (r : Recor
   pub properties-walked : (w : TableReading) → w ≡ properties t (namesBefore t at (records t first) ++ (part t start len ∷ [])) (records t next)
       → w ≡ properties t (namesBefore t next (records t first)) (records t next)
   properties-walked w h = rw (before-next t reach (sym e ∙ f)) h
+
+  pub hashes-next : (hashes : List ℕ) (count : ℕ) → length hashes ≡ 128 → count < 128 → take count hashes ≡ hashesOf (namesBefore t at (records t first))
+      → (b : List ℕ) → b ≡ part t start len → (h : ℕ) → h ≡ hashOf b → take (count + 1) (set hashes count h) ≡ hashesOf (namesBefore t next (records t first))
+  hashes-next hashes count size few inv b g h i =
+      rw (before-next t reach (sym e ∙ f), ← g) (hashes-set hashes count (namesBefore t at (records t first)) b h (omega arith) inv i)
 
 -- a table
 module _ (t : List ℕ) where

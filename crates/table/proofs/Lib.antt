@@ -1,3 +1,4 @@
+pub mod Hashes
 pub mod Before
 pub mod Laws
 pub mod Good

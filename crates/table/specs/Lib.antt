@@ -1,4 +1,5 @@
 pub mod Table
 pub mod Properties
+pub mod Hash
 pub mod Sample
 pub mod Examples

@@ -1,3 +1,4 @@
 // The table: its faults, its class, and its properties by name.
+pub mod hash;
 pub mod lookup;
 pub mod validate;

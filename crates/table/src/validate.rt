@@ -1,15 +1,17 @@
 // The faults of a table: numbers 2 and 3, with their places.
+use crate::hash::has_hash;
+use crate::hash::hash_of;
 use record::kind::Kind;
 use record::read::RecordAt;
 ghost use mathlib.Core.Path.{_≡_};
 ghost use Prim.Native.Nat.{_≤_};
 ghost use lib.ListN.{length};
-ghost use Rattle.base.specs.Part.{part};
 ghost use Rattle.record.specs.Record.{records};
 ghost use Rattle.record.specs.Reserved.{among};
 ghost use Rattle.table.specs.Table.{numberOf, isKnown, isClass, isProperty, properties, tableReading};
 ghost use mathlib.Core.List.{[]};
 ghost use Rattle.table.specs.Properties.{namesBefore};
+ghost use Rattle.table.specs.Hash.{hashOf, hashesOf};
 
 pub enum TableFault {
     Malformed,
@@ -64,21 +66,20 @@ fn is_property_record(kind: usize, name: &[u8]) -> bool
     is_known(record::kind::kind_of(kind)) & record::name::valid_name(name)
 }
 
-// Whether a record from `first` on and before `stop` has the name in the `len` bytes at `start`.
-fn name_used(t: &[u8], first: usize, stop: usize, start: usize, len: usize) -> bool
-    ensures { λ r. ⌜ r ≡ among (part (now (t .entry)) start len) (namesBefore (now (t .entry)) stop (records (now (t .entry)) first)) ⌝ }
+// Whether a record from `first` on and before `stop` has the name.
+fn name_used(t: &[u8], first: usize, stop: usize, name: &[u8]) -> bool
+    ensures { λ r. ⌜ r ≡ among (now (name .entry)) (namesBefore (now (t .entry)) stop (records (now (t .entry)) first)) ⌝ }
 {
-    let name = base::bytes::piece(t, start, len);
     let mut at = first;
     while at < stop {
         match record::read::record_at(t, at) {
             RecordAt::Whole {
                 kind: _,
-                start: from,
-                length: size,
+                start,
+                length,
                 next,
             } => {
-                if record::name::same_name(name, base::bytes::piece(t, from, size)) {
+                if record::name::same_name(name, base::bytes::piece(t, start, length)) {
                     return true;
                 }
                 at = next;
@@ -90,10 +91,31 @@ fn name_used(t: &[u8], first: usize, stop: usize, start: usize, len: usize) -> b
     false
 }
 
+// The same by the hashes of the names before `stop`: most names have one of their own, and no other is looked at.
+fn is_used(t: &[u8], first: usize, stop: usize, name: &[u8], hash: u16, hashes: &[u16]) -> bool
+    requires { ⌜ (hash ≡ hashOf (now name)) × (now hashes ≡ hashesOf (namesBefore (now t) stop (records (now t) first))) ⌝ }
+    ensures { λ r. ⌜ r ≡ among (now (name .entry)) (namesBefore (now (t .entry)) stop (records (now (t .entry)) first)) ⌝ }
+{
+    if !has_hash(hash, hashes) {
+        return false;
+    }
+    name_used(t, first, stop, name)
+}
+
+fn name_twice(place: usize) -> TableReading
+    ensures { λ r. ⌜ r ≡ TableReading.Fault TableFault.NameTwice place ⌝ }
+{
+    TableReading::Fault {
+        cause: TableFault::NameTwice,
+        place,
+    }
+}
+
 // The properties from `first` on.
 fn read_properties(t: &[u8], first: usize) -> TableReading
     ensures { λ r. ⌜ r ≡ properties (now (t .entry)) [] (records (now (t .entry)) first) ⌝ }
 {
+    let mut hashes = [0u16; 128];
     let mut at = first;
     let mut count: usize = 0;
     loop {
@@ -107,15 +129,15 @@ fn read_properties(t: &[u8], first: usize) -> TableReading
                 if 128 <= count {
                     return malformed(at);
                 }
-                if !is_property_record(kind, base::bytes::piece(t, start, length)) {
+                let name = base::bytes::piece(t, start, length);
+                if !is_property_record(kind, name) {
                     return malformed(at);
                 }
-                if name_used(t, first, at, start, length) {
-                    return TableReading::Fault {
-                        cause: TableFault::NameTwice,
-                        place: at,
-                    };
+                let hash = hash_of(name);
+                if is_used(t, first, at, name, hash, &hashes[..count]) {
+                    return name_twice(at);
                 }
+                hashes[count] = hash;
                 at = next;
                 count += 1;
             }

@@ -13,6 +13,9 @@ Inv-loop n v₀ i₀ v i = (i ≤ n) × (v + 1 ≡ 256 ^ i)
 abbrev μ-loop : tie.MeasureT-loop
 μ-loop n v₀ i₀ v i = n - i
 
+returns : tie.Need-returns Inv-loop μ-loop
+returns c = rw (c .if1 .taken)
+
 loop-holds : tie.Need-loop-holds Inv-loop μ-loop
 loop-holds c = (search needs, omega (arith, pow-zero 256))
 
@@ -31,9 +34,10 @@ loop-less c = search needs
 loop-again : tie.Need-loop-again Inv-loop μ-loop
 loop-again c = (search needs, ones-more _ _ (c .before .loop .inv .1))
 
-returns : tie.Need-returns Inv-loop μ-loop
-returns c = let e : c .before .loop .i ≡ c .before .before .args .n = omega arith in rw e at (c .before .loop .inv .1)
+returns-2 : tie.Need-returns-2 Inv-loop μ-loop
+returns-2 c = let e : c .before .loop .i ≡ c .before .before .before .args .n = omega arith in rw e at (c .before .loop .inv .1)
 
 pub all-ones-spec : {M : Type 1} → statement M
 all-ones-spec =
-    tie.close (tie.spec Inv-loop μ-loop loop-holds mul-v add-v add-i loop-less loop-again returns)
+    tie.close
+    (tie.spec Inv-loop μ-loop returns loop-holds mul-v add-v add-i loop-less loop-again returns-2)

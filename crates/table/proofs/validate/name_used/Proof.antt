@@ -2,7 +2,6 @@ use borrow.Author.Needs.{needs}
 use Rattle.table.proofs.Laws as law
 use Rattle.record.proofs.Reach as reach
 use Rattle.record.specs.Record.{records}
-use Rattle.base.specs.Part.{part}
 use Rattle.record.specs.Reserved.{among}
 use lib.ListN.{length}
 use Prim.Native.Nat.{_-_}
@@ -12,13 +11,10 @@ use Rattle.table.proofs.validate.name_used.Statement.{statement}
 use Rattle.table.proofs.validate.name_used.Tie as tie
 
 abbrev Inv-loop : tie.InvT-loop
-Inv-loop t first stop start len name at₀ at = among (part t start len) (namesBefore t stop (records t first)) ≡ among (part t start len) (namesBefore t stop (records t at))
+Inv-loop t first stop name at₀ at = among name (namesBefore t stop (records t first)) ≡ among name (namesBefore t stop (records t at))
 
 abbrev μ-loop : tie.MeasureT-loop
-μ-loop t first stop start len name at₀ at = length t - at
-
-piece-requires : tie.Need-piece-requires Inv-loop μ-loop
-piece-requires c κs = search needs
+μ-loop t first stop name at₀ at = length t - at
 
 loop-holds : tie.Need-loop-holds Inv-loop μ-loop
 loop-holds c = search needs
@@ -26,11 +22,11 @@ loop-holds c = search needs
 record-at-requires : tie.Need-record-at-requires Inv-loop μ-loop
 record-at-requires c κs = search needs
 
-enum-known-from : tie.Need-enum-known-from Inv-loop μ-loop
-enum-known-from c = search needs
+enum-known-start : tie.Need-enum-known-start Inv-loop μ-loop
+enum-known-start c = search needs
 
-piece-requires-2 : tie.Need-piece-requires-2 Inv-loop μ-loop
-piece-requires-2 c κs = search needs
+piece-requires : tie.Need-piece-requires Inv-loop μ-loop
+piece-requires c κs = search needs
 
 same-name-requires : tie.Need-same-name-requires Inv-loop μ-loop
 same-name-requires c κs = search needs
@@ -65,11 +61,10 @@ name-used-spec =
     (tie.spec
     Inv-loop
     μ-loop
-    piece-requires
     loop-holds
     record-at-requires
-    enum-known-from
-    piece-requires-2
+    enum-known-start
+    piece-requires
     same-name-requires
     returns
     loop-less
