@@ -7,12 +7,12 @@ use native.Mathlib.Omega.{arith}
 use lib.ListN.{length, drop, getD, drop-of-length-le}
 use lib.Dec.{ltb}
 use borrow.Author.Tests.{eq-eqb, ne-eqb, lt-ltb, le-ltb, ltb-true, ltb-false}
-use Rattle.base.specs.Part.{sameBytes}
+use Rattle.base.specs.Part.{part, sameBytes}
 use Rattle.base.specs.Digit.{digitOf}
 use Rattle.base.proofs.Lists.{left-next}
 use Rattle.record.specs.Record.{numberAt}
 use Rattle.unicode.specs.WellFormed.{sequenceAt}
-use Rattle.unicode.specs.Scalar.{scalarAt, twoBytes, threeBytes, fourBytes, encode}
+use Rattle.unicode.specs.Scalar.{scalarOf, scalarAt, twoBytes, threeBytes, fourBytes, encode}
 use Rattle.unicode.proofs.WellFormed.{sequence-fits}
 use Rattle.unicode.proofs.Characters.{characters-next, characters-stop}
 use Rattle.string_literal.specs.declared.InString.{InString}
@@ -38,9 +38,9 @@ module _ (s : List ℕ) (at : ℕ) where
 
 -- the characters of UTF-8
 module _ (s : List ℕ) (at n : ℕ) (e : n ≡ sequenceAt s at) where
-  pub character-next : (n ≡ 0 → ⊥) → (v : ℕ) → v ≡ scalarAt s at → Steps Utf8 s at (Unit v Utf8 (at + n))
-  unfolding unitsFrom
-  character-next h v f = rw (f, e) (characters-next s at (λ z. h (e ∙ z)))
+  pub character-next : (n ≡ 0 → ⊥) → (v : ℕ) (body : List ℕ) → body ≡ part s at n → v ≡ scalarOf body → Steps Utf8 s at (Unit v Utf8 (at + n))
+  unfolding unitsFrom scalarAt
+  character-next h v body f g = rw (g, f, e) (characters-next s at (λ z. h (e ∙ z)))
 
   pub character-end : n ≡ 0 → Steps Utf8 s at End
   unfolding unitsFrom
@@ -193,44 +193,43 @@ module _ {r : InString} (s : List ℕ) (at : ℕ) (e : r ≡ charAt s at) (k : �
 pub encoded-here : (v k n : ℕ) → n ≡ length (encode v) → k < n → k < length (encode v)
 encoded-here v k n e h = rw e at h
 
--- two sequences of units, as the loop meets them
-module _ (w : Bool) (f : Form) (a : List ℕ) (i : ℕ) (g : Form) (b : List ℕ) (j : ℕ) (inv : w ≡ sameBytes (unitsFrom f a i) (unitsFrom g b j)) where
-  module _ (x y : Next) (ex : Steps f a i x) (ey : Steps g b j y) where
-    pub units-both-end : x ≡ End → y ≡ End → true ≡ w
-    unfolding sameBytes
-    units-both-end p q =
-        let u : Steps f a i End = rw p at ex in
-        let v : Steps g b j End = rw q at ey in
-        sym (inv ∙ rw (u, v))
+-- the next units of two sequences, as the code meets them
+module _ (f : Form) (a : List ℕ) (i : ℕ) (g : Form) (b : List ℕ) (j : ℕ) (x y : Next) (ex : Steps f a i x) (ey : Steps g b j y) where
+  pub units-both-end : x ≡ End → y ≡ End → true ≡ sameBytes (unitsFrom f a i) (unitsFrom g b j)
+  unfolding sameBytes
+  units-both-end p q =
+      let u : Steps f a i End = rw p at ex in
+      let v : Steps g b j End = rw q at ey in
+      rw (u, v)
 
-    pub units-longer : (m : ℕ) (h : Form) (k : ℕ) → x ≡ Unit m h k → y ≡ End → false ≡ w
+  pub units-longer : (m : ℕ) (h : Form) (k : ℕ) → x ≡ Unit m h k → y ≡ End → false ≡ sameBytes (unitsFrom f a i) (unitsFrom g b j)
+  unfolding sameBytes
+  units-longer m h k p q =
+      let u : Steps f a i (Unit m h k) = rw p at ex in
+      let v : Steps g b j End = rw q at ey in
+      rw (u, v)
+
+  pub units-shorter : (m : ℕ) (h : Form) (k : ℕ) → x ≡ End → y ≡ Unit m h k → false ≡ sameBytes (unitsFrom f a i) (unitsFrom g b j)
+  unfolding sameBytes
+  units-shorter m h k p q =
+      let u : Steps f a i End = rw p at ex in
+      let v : Steps g b j (Unit m h k) = rw q at ey in
+      rw (u, v)
+
+  module _ (m : ℕ) (h : Form) (k : ℕ) (p : x ≡ Unit m h k) (n : ℕ) (e : Form) (l : ℕ) (q : y ≡ Unit n e l) where
+    pub units-differ : (m ≡ n → ⊥) → false ≡ sameBytes (unitsFrom f a i) (unitsFrom g b j)
     unfolding sameBytes
-    units-longer m h k p q =
+    units-differ d =
         let u : Steps f a i (Unit m h k) = rw p at ex in
-        let v : Steps g b j End = rw q at ey in
-        sym (inv ∙ rw (u, v))
+        let v : Steps g b j (Unit n e l) = rw q at ey in
+        rw (u, v, ne-eqb m n d)
 
-    pub units-shorter : (m : ℕ) (h : Form) (k : ℕ) → x ≡ End → y ≡ Unit m h k → false ≡ w
+    pub units-next : m ≡ n → sameBytes (unitsFrom f a i) (unitsFrom g b j) ≡ sameBytes (unitsFrom h a k) (unitsFrom e b l)
     unfolding sameBytes
-    units-shorter m h k p q =
-        let u : Steps f a i End = rw p at ex in
-        let v : Steps g b j (Unit m h k) = rw q at ey in
-        sym (inv ∙ rw (u, v))
-
-    module _ (m : ℕ) (h : Form) (k : ℕ) (p : x ≡ Unit m h k) (n : ℕ) (e : Form) (l : ℕ) (q : y ≡ Unit n e l) where
-      pub units-differ : (m ≡ n → ⊥) → false ≡ w
-      unfolding sameBytes
-      units-differ d =
-          let u : Steps f a i (Unit m h k) = rw p at ex in
-          let v : Steps g b j (Unit n e l) = rw q at ey in
-          sym (inv ∙ rw (u, v, ne-eqb m n d))
-
-      pub units-next : m ≡ n → w ≡ sameBytes (unitsFrom h a k) (unitsFrom e b l)
-      unfolding sameBytes
-      units-next d =
-          let u : Steps f a i (Unit m h k) = rw p at ex in
-          let v : Steps g b j (Unit n e l) = rw q at ey in
-          inv ∙ rw (u, v, eq-eqb m n d)
+    units-next d =
+        let u : Steps f a i (Unit m h k) = rw p at ex in
+        let v : Steps g b j (Unit n e l) = rw q at ey in
+        rw (u, v, eq-eqb m n d)
 
 -- each unit leaves fewer
 pub units-fewer : (f : Form) (a : List ℕ) (i : ℕ) (x : Next) → Steps f a i x → (m : ℕ) (h : Form) (k : ℕ) → x ≡ Unit m h k

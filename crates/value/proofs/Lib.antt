@@ -1,4 +1,5 @@
 pub mod Laws
+pub mod PlainUnits
 pub mod Ordering
 pub mod Reading
 pub mod Comparing

@@ -3,7 +3,7 @@ use crate::item::Item;
 use crate::item::Sequence;
 use crate::item::is_null;
 use crate::item::same_sort;
-use crate::unit::same_units;
+use crate::same::same_units;
 use base::bytes::piece;
 use base::integer::Whole;
 use base::integer::order_of_whole;

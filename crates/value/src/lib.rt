@@ -1,5 +1,7 @@
 // Values of instances, read from their bytes, and their comparison.
 pub mod compare;
 pub mod item;
+pub mod plain;
 pub mod read;
+pub mod same;
 pub mod unit;

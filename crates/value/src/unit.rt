@@ -1,15 +1,15 @@
 // Text, octets and references, unit by unit: a text's characters, or bytes.
+use base::bytes::piece;
 use base::bytes::widen;
 use base::digit::digit_of;
 use record::read::number_at;
 use string_literal::InString;
 use string_literal::char_in_string;
-use unicode::scalar::scalar_at;
+use unicode::scalar::scalar_of;
 use unicode::sequence::sequence_at;
 ghost use mathlib.Core.Path.{_≡_};
 ghost use Prim.Native.Nat.{_≤_, _<_};
 ghost use lib.ListN.{length, getD};
-ghost use Rattle.base.specs.Part.{sameBytes};
 ghost use Rattle.unicode.specs.Scalar.{twoBytes, threeBytes, fourBytes, encode};
 ghost use Rattle.value.specs.Unit.{unitsFrom, Steps};
 
@@ -46,7 +46,7 @@ fn next_character(s: &[u8], at: usize) -> Next
     if n == 0 {
         return Next::End;
     }
-    Next::Unit(scalar_at(s, at) as u64, Form::Utf8, at + n)
+    Next::Unit(scalar_of(piece(s, at, n)) as u64, Form::Utf8, at + n)
 }
 
 fn next_char16(s: &[u8], at: usize) -> Next
@@ -185,35 +185,5 @@ pub fn next_unit(form: Form, s: &[u8], at: usize) -> Next
         Form::Hex => next_pair(s, at),
         Form::Quoted => next_quoted(s, at),
         Form::Encoded(skipped) => next_encoded(s, at, skipped),
-    }
-}
-
-// Whether the units from two places on are the same, one after the other, and equally many.
-pub fn same_units<'a>(f: Form, a: &'a [u8], i: usize, g: Form, b: &'a [u8], j: usize) -> bool
-    ensures { λ r. ⌜ r ≡ sameBytes (unitsFrom f (now (a .entry)) i) (unitsFrom g (now (b .entry)) j) ⌝ }
-{
-    let mut left = f;
-    let mut at = i;
-    let mut right = g;
-    let mut beside = j;
-    loop {
-        match next_unit(left, a, at) {
-            Next::Unit(x, form, place) => match next_unit(right, b, beside) {
-                Next::Unit(y, other, then) => {
-                    if x != y {
-                        return false;
-                    }
-                    left = form;
-                    at = place;
-                    right = other;
-                    beside = then;
-                }
-                Next::End => return false,
-            },
-            Next::End => match next_unit(right, b, beside) {
-                Next::Unit(_, _, _) => return false,
-                Next::End => return true,
-            },
-        }
     }
 }
