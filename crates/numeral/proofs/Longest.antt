@@ -70,7 +70,7 @@ module _ (q : List ℕ) (base : ℕ) (small : base ≤ 16) where
   first (more (one h) f) = h
 
   -- a byteAt k that is no digit
-  other : (b k : ℕ) → b ≡ k → base ≤ digitOf k → inClass (Digit base) b ≡ true → ⊥
+  pub other : (b k : ℕ) → b ≡ k → base ≤ digitOf k → inClass (Digit base) b ≡ true → ⊥
   unfolding inClass
   other b k e l h = clash (sym h ∙ rw e (le-ltb (digitOf k) base l))
 

@@ -5,15 +5,17 @@ use mathlib.Core.List.{List, [], _∷_}
 use mathlib.Core.Bool.{Bool, true, false, _&&_, false≢true}
 use native.Mathlib.Omega.{arith}
 use lib.ListN.{length, getD, take, drop}
-use lib.Dec.{leb}
-use borrow.Author.Tests.{leb-true, le-leb}
+use lib.Dec.{leb, ltb}
+use borrow.Author.Tests.{leb-true, ltb-true, le-leb}
 use Rattle.base.specs.Pick.{pick}
 use Rattle.base.specs.Range.{within}
 use Rattle.base.specs.Part.{byteAt}
-use Rattle.base.proofs.Lists.{left-next}
+use Rattle.base.proofs.Lists.{left-next, byte-within}
 use Rattle.base.proofs.Says.{and-both}
 use Rattle.unicode.specs.WellFormed.{Range, _‥_, table, inRange, fits, sequenceIn, sequenceAt}
 use Rattle.unicode.specs.Scalar.{scalarOf, scalarAt}
+use Rattle.string_literal.specs.declared.InString.the-variants.{Character}
+use Rattle.string_literal.specs.Char.{unicodeChar, rawAt}
 
 -- a row that fits, byte by byte
 row-first : (i j b : ℕ) (row : List Range) (s : List ℕ) → fits (i ‥ j ∷ row) (b ∷ s) ≡ true → (i ≤ b) × (b ≤ j) × (fits row s ≡ true)
@@ -111,3 +113,17 @@ module _ (q : List ℕ) (at : ℕ) where
   pub low-byte : at < length q → byteAt q at < 0x80 → (sequenceAt q at ≡ 1) × (scalarAt q at ≡ byteAt q at)
   unfolding sequenceAt scalarAt sequenceIn fits inRange within scalarOf
   low-byte h l = rw (left-next q at h, le-leb 0 (byteAt q at) (omega arith), le-leb (byteAt q at) 0x7F (omega arith)) (refl, refl)
+
+  -- one from the blank on is a character of a string, as the code meets it
+  module _ {b : ℕ} (e : b ≡ byteAt q at) (h : (leb 0x20 b && ltb b 0x80) ≡ true) where
+    from-blank : (0x20 ≤ b) × (b < 0x80)
+    from-blank = let p = and-both (leb 0x20 b) (ltb b 0x80) h in (leb-true 0x20 b (p .0), ltb-true b 0x80 (p .1))
+
+    pub ascii-within : at < length q
+    ascii-within = byte-within q at (λ z. let y : b ≡ 0 = e ∙ z in omega (arith, from-blank .0))
+
+    pub ascii-raw : Character b (at + 1) ≡ rawAt q at
+    unfolding rawAt unicodeChar within
+    ascii-raw =
+        let l = low-byte ascii-within (rw (← e) (from-blank .1)) in
+        rw (l .0, l .1, ← e, le-leb 0x20 b (from-blank .0), le-leb b 0xd7ff (omega (arith, from-blank .1))) refl

@@ -2,15 +2,15 @@
 use Prim.Native.Nat.{ℕ, _+_, _≤_, _<_}
 use mathlib.Core.Path.{_≡_, refl, sym, _∙_}
 use mathlib.Core.List.{List}
-use mathlib.Core.Bool.{Bool, true, false}
+use mathlib.Core.Bool.{Bool, true, false, not, _&&_, _||_}
 use native.Mathlib.Omega.{arith}
 use lib.ListN.{length}
-use lib.Dec.{leb}
-use borrow.Author.Tests.{lt-leb, le-ltb}
+use lib.Dec.{leb, ltb, eqb}
+use borrow.Author.Tests.{lt-leb, le-ltb, not-true}
 use Rattle.base.specs.Range.{within}
 use Rattle.unicode.specs.Scalar.{isScalarValue}
 use Rattle.unicode.proofs.WellFormed.{past-end}
-use Rattle.base.proofs.Says.{and-false}
+use Rattle.base.proofs.Says.{and-both, and-false, or-neither}
 use Rattle.base.specs.Part.{byteAt}
 use Rattle.base.specs.Digit.{valueOf, sizeUnder}
 use Rattle.base.specs.declared.digit.Size.{Size}
@@ -21,6 +21,7 @@ use Rattle.string_literal.specs.declared.InString.{InString}
 use Rattle.string_literal.specs.declared.InString.the-variants.{Character, Close, Bad}
 use Rattle.string_literal.specs.Char.{charAt, rawAt, unicodeEscape, plainEscape, hexRun}
 use Rattle.string_literal.specs.Text.{textAt, WithinChar, endOr}
+use Rattle.string_literal.proofs.Ascii.{ascii-raw}
 use Rattle.string_literal.proofs.Bounds.{char-within, text-character, text-close, text-bad, plain-some}
 
 within-above : (lo hi v : ℕ) → hi < v → within lo hi v ≡ false
@@ -81,6 +82,15 @@ module _ {r : InString} (none : ℕ) (q : List ℕ) (at : ℕ) (e : r ≡ charAt
   pub end-bad : r ≡ Bad → endOr none (textAt q at) ≡ none
   unfolding endOr
   end-bad f = rw (text-bad q at (sym e ∙ f))
+
+-- a byte of ASCII that neither ends the literal nor escapes
+pub end-plain : (none : ℕ) (q : List ℕ) (at : ℕ) {b : ℕ} → b ≡ byteAt q at → ((leb 0x20 b && ltb b 0x80) && not (eqb b 39 || eqb b 92)) ≡ true → endOr none (textAt q at) ≡ endOr none (textAt q (at + 1))
+unfolding charAt
+end-plain none q at {b} e h =
+    let p = and-both (leb 0x20 b && ltb b 0x80) (not (eqb b 39 || eqb b 92)) h in
+    let n = or-neither (eqb b 39) (eqb b 92) (not-true (eqb b 39 || eqb b 92) (p .1)) in
+    let c : Character b (at + 1) ≡ charAt q at = rw (← e, n .0, n .1) (ascii-raw q at e (p .0)) in
+    end-step none q at c refl
 
 pub end-past : (none : ℕ) (q : List ℕ) (at : ℕ) → length q ≤ at → endOr none (textAt q at) ≡ none
 end-past none q at h = end-bad none q at refl (char-past q at h)

@@ -6,12 +6,13 @@ ghost use Rattle.base.specs.Pick.{pick};
 ghost use Rattle.string_literal.specs.Char.{unicodeChar, rawAt, plainEscape, hexRun, unicodeEscape, escapeAt, charAt};
 ghost use Rattle.string_literal.specs.Text.{textAt, charactersOf, endOr, stringLiteral, filled, Holds, WithinChar};
 use base::bytes::byte_at;
+use base::bytes::piece;
 use base::digit::Size;
 use base::digit::read_value;
 use scan::Class;
 use scan::run_end;
 use unicode::scalar::is_scalar_value;
-use unicode::scalar::scalar_at;
+use unicode::scalar::scalar_of;
 use unicode::sequence::sequence_at;
 
 // What stands at a place inside a string literal: a character and where the next one starts, the closing quote, or neither.
@@ -34,14 +35,19 @@ pub fn is_unicode_char(v: u32) -> bool
         | (((0xe000 <= v) & (v <= 0xfffd)) | ((0x10000 <= v) & (v <= 0x10ffff)))
 }
 
+// A byte of ASCII from the blank on is a character; other characters are decoded.
 fn raw_at(q: &[u8], at: usize) -> InString
     ensures { λ r. ⌜ r ≡ rawAt (now (q .entry)) at ⌝ }
 {
+    let b = byte_at(q, at);
+    if (b' ' <= b) & (b < 0x80) {
+        return InString::Character(b as u32, at + 1);
+    }
     let n = sequence_at(q, at);
     if n == 0 {
         return InString::Bad;
     }
-    let v = scalar_at(q, at);
+    let v = scalar_of(piece(q, at, n));
     if is_unicode_char(v) {
         return InString::Character(v, at + n);
     }
@@ -127,15 +133,20 @@ fn text_end(q: &[u8], at: usize, none: usize) -> usize
 {
     let mut i = at;
     while i < q.len() {
-        match char_in_string(q, i) {
-            InString::Character(_, next) => {
-                i = next;
-            }
-            InString::Close => {
-                return i + 1;
-            }
-            InString::Bad => {
-                return none;
+        let b = q[i];
+        if ((b' ' <= b) & (b < 0x80)) & !((b == b'\'') | (b == b'\\')) {
+            i += 1;
+        } else {
+            match char_in_string(q, i) {
+                InString::Character(_, next) => {
+                    i = next;
+                }
+                InString::Close => {
+                    return i + 1;
+                }
+                InString::Bad => {
+                    return none;
+                }
             }
         }
     }

@@ -1,5 +1,9 @@
 pub mod Spans
 pub mod Laws
+pub mod FirstByte
+pub mod Digits
+pub mod Words
+pub mod Symbols
 pub mod Maximal
 pub mod Examples
 pub mod Steps

@@ -23,6 +23,9 @@ pub none-spans : (n s : ℕ) → s ≤ n → Spans n s (token NoToken s s)
 unfolding isToken
 none-spans n s h = record { begins = refl; ends = omega arith; within = h; moves = sym (le-ltb s s (omega arith)) }
 
+pub moved-spans : (n s e : ℕ) (k : TokenKind) → isToken k ≡ true → s < e → e ≤ n → Spans n s (token k s e)
+moved-spans n s e k t a b = record { begins = refl; ends = omega arith; within = b; moves = t ∙ sym (lt-ltb s e a) }
+
 pub fitted-spans : (n s e : ℕ) (k : TokenKind) → isToken k ≡ true → s ≤ e → e ≤ n → Spans n s (fitted k s e)
 unfolding fitted
 fitted-spans n s e k t a b = go (ltb s e) refl

@@ -3,7 +3,6 @@ use crate::Punctuation;
 use crate::Token;
 use crate::TokenKind;
 use crate::is_token;
-use crate::longest::longer_of;
 use crate::longest::pick_kind;
 use base::order::Operator;
 ghost use mathlib.Core.Path.{_≡_};
@@ -14,20 +13,20 @@ ghost use Rattle.token.specs.Token.{pairKind, singleKind, symbolOf, symb
 pub(crate) fn pair_kind(b: u8, c: u8) -> TokenKind
     ensures { λ r. ⌜ r ≡ pairKind b c ⌝ }
 {
-    if c == 62 {
+    if c == b'>' {
         return pick_kind(
-            b == 60,
+            b == b'<',
             TokenKind::Compare(Operator::Unequal),
             TokenKind::NoToken,
         );
     }
-    if c == 61 {
+    if c == b'=' {
         let k = pick_kind(
-            b == 62,
+            b == b'>',
             TokenKind::Compare(Operator::AtLeast),
             TokenKind::NoToken,
         );
-        return pick_kind(b == 60, TokenKind::Compare(Operator::AtMost), k);
+        return pick_kind(b == b'<', TokenKind::Compare(Operator::AtMost), k);
     }
     TokenKind::NoToken
 }
@@ -35,21 +34,20 @@ pub(crate) fn pair_kind(b: u8, c: u8) -> TokenKind
 pub(crate) fn single_kind(b: u8) -> TokenKind
     ensures { λ r. ⌜ r ≡ singleKind b ⌝ }
 {
-    let k = pick_kind(
-        b == 46,
-        TokenKind::Symbol(Punctuation::Dot),
-        TokenKind::NoToken,
-    );
-    let k = pick_kind(b == 44, TokenKind::Symbol(Punctuation::Comma), k);
-    let k = pick_kind(b == 125, TokenKind::Symbol(Punctuation::CloseList), k);
-    let k = pick_kind(b == 123, TokenKind::Symbol(Punctuation::OpenList), k);
-    let k = pick_kind(b == 93, TokenKind::Symbol(Punctuation::CloseIndex), k);
-    let k = pick_kind(b == 91, TokenKind::Symbol(Punctuation::OpenIndex), k);
-    let k = pick_kind(b == 41, TokenKind::Symbol(Punctuation::Close), k);
-    let k = pick_kind(b == 40, TokenKind::Symbol(Punctuation::Open), k);
-    let k = pick_kind(b == 62, TokenKind::Compare(Operator::Greater), k);
-    let k = pick_kind(b == 60, TokenKind::Compare(Operator::Less), k);
-    pick_kind(b == 61, TokenKind::Compare(Operator::Equal), k)
+    match b {
+        b'=' => TokenKind::Compare(Operator::Equal),
+        b'<' => TokenKind::Compare(Operator::Less),
+        b'>' => TokenKind::Compare(Operator::Greater),
+        b'(' => TokenKind::Symbol(Punctuation::Open),
+        b')' => TokenKind::Symbol(Punctuation::Close),
+        b'[' => TokenKind::Symbol(Punctuation::OpenIndex),
+        b']' => TokenKind::Symbol(Punctuation::CloseIndex),
+        b'{' => TokenKind::Symbol(Punctuation::OpenList),
+        b'}' => TokenKind::Symbol(Punctuation::CloseList),
+        b',' => TokenKind::Symbol(Punctuation::Comma),
+        b'.' => TokenKind::Symbol(Punctuation::Dot),
+        _ => TokenKind::NoToken,
+    }
 }
 
 pub(crate) fn symbol_of(k: TokenKind, s: usize, n: usize) -> Token
@@ -75,8 +73,13 @@ pub(crate) fn symbol_token(q: &[u8], s: usize) -> Token
     ensures { λ r. ⌜ (r ≡ symbolToken (now (q .entry)) s) × Spans (length (now (q .entry))) s r ⌝ }
 {
     let b = base::bytes::byte_at(q, s);
-    let c = base::bytes::byte_at(q, s + 1);
-    let p = symbol_of(pair_kind(b, c), s, 2);
-    let k = symbol_of(single_kind(b), s, 1);
-    longer_of(p, k)
+    let kind = pair_kind(b, base::bytes::byte_at(q, s + 1));
+    if is_token(kind) {
+        return Token {
+            kind,
+            start: s,
+            end: s + 2,
+        };
+    }
+    symbol_of(single_kind(b), s, 1)
 }

@@ -2,7 +2,6 @@
 use crate::Reserved;
 use crate::Token;
 use crate::TokenKind;
-use crate::longest::fit;
 use crate::longest::pick_kind;
 ghost use mathlib.Core.Path.{_≡_};
 ghost use Prim.Native.Nat.{_≤_};
@@ -22,18 +21,28 @@ fn word_or(w: &[u8], spelled: &[u8], word: Reserved, other: TokenKind) -> TokenK
     )
 }
 
+// Only a reserved word of the same length can be spelled.
 pub fn word_kind(w: &[u8]) -> TokenKind
     ensures { λ r. ⌜ r ≡ wordKind (now (w .entry)) ⌝ }
 {
-    let k = word_or(w, b"TRUE", Reserved::True, TokenKind::Name);
-    let k = word_or(w, b"OR", Reserved::Or, k);
-    let k = word_or(w, b"NULL", Reserved::Null, k);
-    let k = word_or(w, b"NOT", Reserved::Not, k);
-    let k = word_or(w, b"LIKE", Reserved::Like, k);
-    let k = word_or(w, b"FALSE", Reserved::False, k);
-    let k = word_or(w, b"EVERY", Reserved::Every, k);
-    let k = word_or(w, b"ANY", Reserved::Any, k);
-    word_or(w, b"AND", Reserved::And, k)
+    match w.len() {
+        2 => word_or(w, b"OR", Reserved::Or, TokenKind::Name),
+        3 => {
+            let k = word_or(w, b"NOT", Reserved::Not, TokenKind::Name);
+            let k = word_or(w, b"ANY", Reserved::Any, k);
+            word_or(w, b"AND", Reserved::And, k)
+        }
+        4 => {
+            let k = word_or(w, b"TRUE", Reserved::True, TokenKind::Name);
+            let k = word_or(w, b"NULL", Reserved::Null, k);
+            word_or(w, b"LIKE", Reserved::Like, k)
+        }
+        5 => {
+            let k = word_or(w, b"FALSE", Reserved::False, TokenKind::Name);
+            word_or(w, b"EVERY", Reserved::Every, k)
+        }
+        _ => TokenKind::Name,
+    }
 }
 
 pub(crate) fn word_token(q: &[u8], s: usize) -> Token
@@ -42,8 +51,12 @@ pub(crate) fn word_token(q: &[u8], s: usize) -> Token
 {
     if record::name::is_letter(base::bytes::byte_at(q, s)) {
         let e = scan::run_end(scan::Class::Word, q, s);
-        let k = word_kind(&q[s..e]);
-        return fit(k, s, e);
+        let kind = word_kind(&q[s..e]);
+        return Token {
+            kind,
+            start: s,
+            end: e,
+        };
     }
     Token {
         kind: TokenKind::NoToken,

@@ -1,7 +1,11 @@
 use native.Mathlib.Omega.{arith}
 use mathlib.Core.Path.{refl}
 use lib.ListN.{length}
+use borrow.Author.Tests.{ltb-true}
+use Rattle.base.proofs.Says.{and-both}
 use Rattle.token.proofs.Laws.{fit-spans, long-spans}
+use Rattle.token.proofs.Spans.{moved-spans}
+use Rattle.token.proofs.Digits.{digits-alone}
 use Rattle.token.specs.Token.{numberToken, isToken}
 use borrow.Author.Needs.{needs}
 use Rattle.token.proofs.literals.number_token.Statement.{statement}
@@ -10,46 +14,39 @@ use Rattle.token.proofs.literals.number_token.Tie as tie
 decimal-literal-requires : tie.Need-decimal-literal-requires
 decimal-literal-requires c κs = search needs
 
+byte-at-requires : tie.Need-byte-at-requires
+byte-at-requires c κs = search needs
+
+is-one-of-requires : tie.Need-is-one-of-requires
+is-one-of-requires c κs = search needs
+
+is-one-of-requires-2 : tie.Need-is-one-of-requires-2
+is-one-of-requires-2 c κs = search needs
+
+returns : tie.Need-returns
+unfolding isToken
+returns c =
+    let n = length (c .before .before .before .before .before .before .args .q .now) in
+    let s = c .before .before .before .before .before .before .args .s in
+    let l = ltb-true s (c .before .before .before .before .decimal-literal .result) (and-both _ _ (c .if1 .taken) .0) in
+    (digits-alone (c .before .before .before .before .before .before .args .q .now) s (c .before .before .before .before .decimal-literal .ensures .0) (c .before .before .before .byte-at .ensures) (c .before .before .is-one-of .ensures) (c .before .is-one-of2 .ensures) (c .if1 .taken), moved-spans n s _ _ refl l (omega (arith, (c .before .before .before .before .before .before .pre), c .before .before .before .before .decimal-literal .ensures .1, c .before .before .before .before .decimal-literal .ensures .2)))
+
 fit-requires : tie.Need-fit-requires
 fit-requires c κs = search needs
 
-binary-literal-requires : tie.Need-binary-literal-requires
-binary-literal-requires c κs = search needs
-
-fit-requires-2 : tie.Need-fit-requires-2
-fit-requires-2 c κs = search needs
-
-hex-literal-requires : tie.Need-hex-literal-requires
-hex-literal-requires c κs = search needs
-
-fit-requires-3 : tie.Need-fit-requires-3
-fit-requires-3 c κs = search needs
-
-real-literal-requires : tie.Need-real-literal-requires
-real-literal-requires c κs = search needs
-
-fit-requires-4 : tie.Need-fit-requires-4
-fit-requires-4 c κs = search needs
+other-form-requires : tie.Need-other-form-requires
+other-form-requires c κs = search needs
 
 longer-of-requires : tie.Need-longer-of-requires
 longer-of-requires c κs = search needs
 
-longer-of-requires-2 : tie.Need-longer-of-requires-2
-longer-of-requires-2 c κs = search needs
-
-longer-of-requires-3 : tie.Need-longer-of-requires-3
-longer-of-requires-3 c κs = search needs
-
-returns : tie.Need-returns
+returns-2 : tie.Need-returns-2
 unfolding numberToken isToken
-returns c =
-    let n = length (c .before .before .before .before .before .before .before .before .before .before .before .before .args .q .now) in
-    let s = c .before .before .before .before .before .before .before .before .before .before .before .before .args .s in (
-      simp (c .longer-of3 .ensures, c .before .longer-of2 .ensures, c .before .before .longer-of .ensures, c .before .before .before .before .before .before .before .before .before .fit .ensures, c .before .before .before .before .before .before .before .fit2 .ensures, c .before .before .before .before .before .fit3 .ensures, c .before .before .before .fit4 .ensures, c .before .before .before .before .before .before .before .before .before .before .decimal-literal .ensures .0, c .before .before .before .before .before .before .before .before .binary-literal .ensures .0, c .before .before .before .before .before .before .hex-literal .ensures .0, c .before .before .before .before .real-literal .ensures .0),
-      long-spans n s (c .longer-of3 .ensures) (fit-spans n s _ _ (c .before .before .before .before .before .before .before .before .before .fit .ensures) refl (c .before .before .before .before .before .before .before .before .before .before .decimal-literal .ensures .1) (omega (arith, c .before .before .before .before .before .before .before .before .before .before .before .before .pre, c .before .before .before .before .before .before .before .before .before .before .decimal-literal .ensures .1, c .before .before .before .before .before .before .before .before .before .before .decimal-literal .ensures .2)))
-          (long-spans n s (c .before .longer-of2 .ensures) (fit-spans n s _ _ (c .before .before .before .before .before .before .before .fit2 .ensures) refl (c .before .before .before .before .before .before .before .before .binary-literal .ensures .1) (omega (arith, c .before .before .before .before .before .before .before .before .before .before .before .before .pre, c .before .before .before .before .before .before .before .before .binary-literal .ensures .1, c .before .before .before .before .before .before .before .before .binary-literal .ensures .2)))
-          (long-spans n s (c .before .before .longer-of .ensures) (fit-spans n s _ _ (c .before .before .before .before .before .fit3 .ensures) refl (c .before .before .before .before .before .before .hex-literal .ensures .1) (omega (arith, c .before .before .before .before .before .before .before .before .before .before .before .before .pre, c .before .before .before .before .before .before .hex-literal .ensures .1, c .before .before .before .before .before .before .hex-literal .ensures .2)))
-          (fit-spans n s _ _ (c .before .before .before .fit4 .ensures) refl (c .before .before .before .before .real-literal .ensures .1) (omega (arith, c .before .before .before .before .before .before .before .before .before .before .before .before .pre, c .before .before .before .before .real-literal .ensures .1, c .before .before .before .before .real-literal .ensures .2))))),
+returns-2 c =
+    let n = length (c .before .before .before .before .before .before .before .before .before .args .q .now) in
+    let s = c .before .before .before .before .before .before .before .before .before .args .s in (
+      simp (c .longer-of .ensures, c .before .before .fit .ensures, c .before .before .before .before .before .before .before .decimal-literal .ensures .0, c .before .other-form .ensures .0),
+      long-spans n s (c .longer-of .ensures) (fit-spans n s _ _ (c .before .before .fit .ensures) refl (c .before .before .before .before .before .before .before .decimal-literal .ensures .1) (omega (arith, (c .before .before .before .before .before .before .before .before .before .pre), c .before .before .before .before .before .before .before .decimal-literal .ensures .1, c .before .before .before .before .before .before .before .decimal-literal .ensures .2))) (c .before .other-form .ensures .1),
     )
 
 pub number-token-spec : {M : Type 1} → statement M
@@ -57,14 +54,11 @@ number-token-spec =
     tie.close
     (tie.spec
     decimal-literal-requires
+    byte-at-requires
+    is-one-of-requires
+    is-one-of-requires-2
+    returns
     fit-requires
-    binary-literal-requires
-    fit-requires-2
-    hex-literal-requires
-    fit-requires-3
-    real-literal-requires
-    fit-requires-4
+    other-form-requires
     longer-of-requires
-    longer-of-requires-2
-    longer-of-requires-3
-    returns)
+    returns-2)

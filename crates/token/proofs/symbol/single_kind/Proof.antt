@@ -1,58 +1,69 @@
+use borrow.Author.Tests.{ne-eqb}
 use Rattle.token.specs.Token.{singleKind}
-use borrow.Author.Needs.{needs}
 use Rattle.token.proofs.symbol.single_kind.Statement.{statement}
 use Rattle.token.proofs.symbol.single_kind.Tie as tie
 
-pick-kind-requires : tie.Need-pick-kind-requires
-pick-kind-requires c κs = search needs
-
-pick-kind-requires-2 : tie.Need-pick-kind-requires-2
-pick-kind-requires-2 c κs = search needs
-
-pick-kind-requires-3 : tie.Need-pick-kind-requires-3
-pick-kind-requires-3 c κs = search needs
-
-pick-kind-requires-4 : tie.Need-pick-kind-requires-4
-pick-kind-requires-4 c κs = search needs
-
-pick-kind-requires-5 : tie.Need-pick-kind-requires-5
-pick-kind-requires-5 c κs = search needs
-
-pick-kind-requires-6 : tie.Need-pick-kind-requires-6
-pick-kind-requires-6 c κs = search needs
-
-pick-kind-requires-7 : tie.Need-pick-kind-requires-7
-pick-kind-requires-7 c κs = search needs
-
-pick-kind-requires-8 : tie.Need-pick-kind-requires-8
-pick-kind-requires-8 c κs = search needs
-
-pick-kind-requires-9 : tie.Need-pick-kind-requires-9
-pick-kind-requires-9 c κs = search needs
-
-pick-kind-requires-10 : tie.Need-pick-kind-requires-10
-pick-kind-requires-10 c κs = search needs
-
-pick-kind-requires-11 : tie.Need-pick-kind-requires-11
-pick-kind-requires-11 c κs = search needs
-
 returns : tie.Need-returns
 unfolding singleKind
-returns c = simp (c .pick-kind11 .ensures, c .before .pick-kind10 .ensures, c .before .before .pick-kind9 .ensures, c .before .before .before .pick-kind8 .ensures, c .before .before .before .before .pick-kind7 .ensures, c .before .before .before .before .before .pick-kind6 .ensures, c .before .before .before .before .before .before .pick-kind5 .ensures, c .before .before .before .before .before .before .before .pick-kind4 .ensures, c .before .before .before .before .before .before .before .before .pick-kind3 .ensures, c .before .before .before .before .before .before .before .before .before .pick-kind2 .ensures, c .before .before .before .before .before .before .before .before .before .before .pick-kind .ensures)
+returns c = rw (c .match .keys1)
+
+returns-2 : tie.Need-returns-2
+unfolding singleKind
+returns-2 c = rw (c .match .keys2)
+
+returns-3 : tie.Need-returns-3
+unfolding singleKind
+returns-3 c = rw (c .match .keys3)
+
+returns-4 : tie.Need-returns-4
+unfolding singleKind
+returns-4 c = rw (c .match .keys4)
+
+returns-5 : tie.Need-returns-5
+unfolding singleKind
+returns-5 c = rw (c .match .keys5)
+
+returns-6 : tie.Need-returns-6
+unfolding singleKind
+returns-6 c = rw (c .match .keys6)
+
+returns-7 : tie.Need-returns-7
+unfolding singleKind
+returns-7 c = rw (c .match .keys7)
+
+returns-8 : tie.Need-returns-8
+unfolding singleKind
+returns-8 c = rw (c .match .keys8)
+
+returns-9 : tie.Need-returns-9
+unfolding singleKind
+returns-9 c = rw (c .match .keys9)
+
+returns-10 : tie.Need-returns-10
+unfolding singleKind
+returns-10 c = rw (c .match .keys10)
+
+returns-11 : tie.Need-returns-11
+unfolding singleKind
+returns-11 c = rw (c .match .keys11)
+
+returns-12 : tie.Need-returns-12
+unfolding singleKind
+returns-12 c = rw (ne-eqb _ 61 (c .match .rest .0 .0 .0 .0 .0 .0 .0 .0 .0 .0 .1), ne-eqb _ 60 (c .match .rest .0 .0 .0 .0 .0 .0 .0 .0 .0 .1), ne-eqb _ 62 (c .match .rest .0 .0 .0 .0 .0 .0 .0 .0 .1), ne-eqb _ 40 (c .match .rest .0 .0 .0 .0 .0 .0 .0 .1), ne-eqb _ 41 (c .match .rest .0 .0 .0 .0 .0 .0 .1), ne-eqb _ 91 (c .match .rest .0 .0 .0 .0 .0 .1), ne-eqb _ 93 (c .match .rest .0 .0 .0 .0 .1), ne-eqb _ 123 (c .match .rest .0 .0 .0 .1), ne-eqb _ 125 (c .match .rest .0 .0 .1), ne-eqb _ 44 (c .match .rest .0 .1), ne-eqb _ 46 (c .match .rest .1))
 
 pub single-kind-spec : {M : Type 1} → statement M
 single-kind-spec =
     tie.close
     (tie.spec
-    pick-kind-requires
-    pick-kind-requires-2
-    pick-kind-requires-3
-    pick-kind-requires-4
-    pick-kind-requires-5
-    pick-kind-requires-6
-    pick-kind-requires-7
-    pick-kind-requires-8
-    pick-kind-requires-9
-    pick-kind-requires-10
-    pick-kind-requires-11
-    returns)
+    returns
+    returns-2
+    returns-3
+    returns-4
+    returns-5
+    returns-6
+    returns-7
+    returns-8
+    returns-9
+    returns-10
+    returns-11
+    returns-12)

@@ -1,4 +1,5 @@
-use Rattle.token.specs.Token.{wordKind}
+use mathlib.Core.Path.{sym, _∙_}
+use Rattle.token.proofs.Words as law
 use borrow.Author.Needs.{needs}
 use Rattle.token.proofs.word.word_kind.Statement.{statement}
 use Rattle.token.proofs.word.word_kind.Tie as tie
@@ -58,8 +59,19 @@ word-or-requires-9 : tie.Need-word-or-requires-9
 word-or-requires-9 c κs = search needs
 
 returns : tie.Need-returns
-unfolding wordKind
-returns c = simp (c .word-or9 .ensures, c .before .before .word-or8 .ensures, c .before .before .before .before .word-or7 .ensures, c .before .before .before .before .before .before .word-or6 .ensures, c .before .before .before .before .before .before .before .before .word-or5 .ensures, c .before .before .before .before .before .before .before .before .before .before .word-or4 .ensures, c .before .before .before .before .before .before .before .before .before .before .before .before .word-or3 .ensures, c .before .before .before .before .before .before .before .before .before .before .before .before .before .before .word-or2 .ensures, c .before .before .before .before .before .before .before .before .before .before .before .before .before .before .before .before .word-or .ensures)
+returns c = c .word-or .ensures ∙ sym (law.of-two _ (c .before .before .match .keys1))
+
+returns-2 : tie.Need-returns-2
+returns-2 c = rw (c .word-or4 .ensures, c .before .before .word-or3 .ensures, c .before .before .before .before .word-or2 .ensures) (sym (law.of-three _ (c .before .before .before .before .before .before .match .keys2)))
+
+returns-3 : tie.Need-returns-3
+returns-3 c = rw (c .word-or7 .ensures, c .before .before .word-or6 .ensures, c .before .before .before .before .word-or5 .ensures) (sym (law.of-four _ (c .before .before .before .before .before .before .match .keys3)))
+
+returns-4 : tie.Need-returns-4
+returns-4 c = rw (c .word-or9 .ensures, c .before .before .word-or8 .ensures) (sym (law.of-five _ (c .before .before .before .before .match .keys4)))
+
+returns-5 : tie.Need-returns-5
+returns-5 c = law.of-none _ (c .match .rest)
 
 pub word-kind-spec : {M : Type 1} → statement M
 word-kind-spec =
@@ -83,4 +95,8 @@ word-kind-spec =
     word-or-requires-8
     slice-aggregate-word-or-9
     word-or-requires-9
-    returns)
+    returns
+    returns-2
+    returns-3
+    returns-4
+    returns-5)

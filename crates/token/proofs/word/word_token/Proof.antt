@@ -1,7 +1,12 @@
+use mathlib.Core.Path.{_≡_, sym, _∙_}
+use mathlib.Core.Bool.{true}
+use Rattle.base.specs.Part.{byteAt}
 use native.Mathlib.Omega.{arith}
 use lib.ListN.{length}
-use Rattle.token.proofs.Laws.{fit-spans, word-kind-some}
-use Rattle.token.proofs.Spans.{none-spans}
+use Rattle.record.specs.Name.{letter}
+use Rattle.token.proofs.Laws.{word-kind-some}
+use Rattle.token.proofs.Spans.{none-spans, moved-spans}
+use Rattle.token.proofs.Words.{word-moves, a-word}
 use Rattle.token.specs.Token.{wordToken}
 use borrow.Author.Needs.{needs}
 use Rattle.token.proofs.word.word_token.Statement.{statement}
@@ -28,12 +33,12 @@ part-word-kind-end c = search needs
 word-kind-requires : tie.Need-word-kind-requires
 word-kind-requires c κs = search needs
 
-fit-requires : tie.Need-fit-requires
-fit-requires c κs = search needs
-
 returns : tie.Need-returns
-unfolding wordToken
-returns c = (simp (← c .before .before .before .before .before .before .byte-at .ensures, ← c .before .before .before .before .before .is-letter .ensures, c .before .before .before .before .if1 .taken, ← c .before .before .before .run-end .ensures .0, c .fit .ensures, c .before .word-kind .ensures), fit-spans (length (c .before .before .before .before .before .before .before .before .args .q .now)) (c .before .before .before .before .before .before .before .before .args .s) _ _ (c .fit .ensures) (word-kind-some _ (c .before .word-kind .ensures)) (c .before .before .before .run-end .ensures .1) (omega arith))
+returns c =
+    let q = c .before .before .before .before .before .before .before .args .q .now in
+    let s = c .before .before .before .before .before .before .before .args .s in
+    let h : letter (byteAt q s) ≡ true = rw (← c .before .before .before .before .before .byte-at .ensures) (sym (c .before .before .before .before .is-letter .ensures) ∙ c .before .before .before .if1 .taken) in
+    (a-word q s h (c .before .before .run-end .ensures .0) (c .word-kind .ensures), moved-spans (length q) s _ _ (word-kind-some _ (c .word-kind .ensures)) (rw (c .before .before .run-end .ensures .0) (word-moves q s h)) (omega (arith, (c .before .before .before .before .before .before .before .pre), c .before .before .run-end .ensures .1, c .before .before .run-end .ensures .2)))
 
 returns-2 : tie.Need-returns-2
 unfolding wordToken
@@ -50,6 +55,5 @@ word-token-spec =
     part-word-kind-start
     part-word-kind-end
     word-kind-requires
-    fit-requires
     returns
     returns-2)
