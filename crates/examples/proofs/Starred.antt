@@ -26,7 +26,6 @@ use Rattle.datetime.specs.Order as datetime-order
 use Rattle.datetime.specs.Text as datetime-text
 use Rattle.datetime.specs.Unknown as datetime-unknown
 use Rattle.pattern.specs.Character as pattern-character
-use Rattle.pattern.specs.Fragment as pattern-fragment
 use Rattle.pattern.specs.Reading as pattern-reading
 use Rattle.pattern.specs.Regex as pattern-regex
 use Rattle.matcher.specs.Run as pattern-run
@@ -129,7 +128,6 @@ unfolding
     datetime-text.shaped datetime-text.dateIn datetime-text.timeIn
     datetime-unknown.starFrom datetime-unknown.known datetime-unknown.filled datetime-unknown.lowestText datetime-unknown.highestText
     pattern-character.special pattern-character.startsWith
-    pattern-fragment.fragmentOf
     pattern-reading.escaped pattern-reading.member pattern-reading.range pattern-reading.members pattern-reading.setFrom pattern-reading.symbol pattern-reading.repeated pattern-reading.symbolItem pattern-reading.ends pattern-reading.parse pattern-reading.alternatives pattern-reading.sequence pattern-reading.item
     pattern-regex.inRanges pattern-regex.standsFor
     pattern-run.nullable pattern-run.final pattern-run.shift pattern-run.withLive pattern-run.run pattern-run.likes

@@ -265,6 +265,14 @@ none-live (alt a r) w (inr m) = none-live r w m
 none-live (opt a) w m = none-live a w m
 none-live (plus a) w m = none-live a (m .0) (m .3)
 
+-- where no symbol is live, no text is matched any more
+pub none-runs : (r : Regex ℕ) (w : List ℕ) → run (withLive (λ i. false) r) w ≡ false
+none-runs r w = go (run (withLive (λ i. false) r) w) refl
+  where
+    go : (b : Bool) → run (withLive (λ i. false) r) w ≡ b → b ≡ false
+    go true e = absurd (none-live r w (run→ (withLive (λ i. false) r) w e))
+    go false e = refl
+
 -- a run answers true exactly for the texts that the pattern matches
 pub decides : (r : Regex ℕ) (w : List ℕ) → (likes r w ≡ true) ↔ Matches r w
 unfolding likes

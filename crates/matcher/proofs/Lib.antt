@@ -1,5 +1,5 @@
 pub mod Decides
-pub mod Fragments
+pub mod Steps
 pub mod Numbering
 pub mod Runs
 pub mod Memory

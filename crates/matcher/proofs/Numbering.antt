@@ -10,7 +10,7 @@ use Rattle.base.specs.Pick.{pick}
 use Rattle.pattern.specs.Regex.{Symbol, Regex, sym, seq, alt}
 use Rattle.pattern.specs.Character.{asterisk, plusSign, questionMark, bar, openGroup, closeGroup, startsWith}
 use Rattle.pattern.specs.Reading.{Reading, malformed, front, Part, symbol, repeated, symbolItem, symbolItemOf, groupOf, ends, after, alternativeTo, alternatives, sequence, item, wholeOf, enough, parse}
-use Rattle.matcher.proofs.Fragments.{Numbered}
+use Rattle.matcher.proofs.Steps.{Numbered}
 
 pub data NumberedPart (k : ℕ) : Reading Part → Type 0 where
   no-part : NumberedPart k malformed

@@ -1,4 +1,5 @@
 pub mod Run
+pub mod Live
 pub mod Matcher
 pub mod Remembered
 pub mod Examples

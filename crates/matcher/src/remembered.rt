@@ -1,49 +1,35 @@
-// The memory of steps already worked out for a text: a step reads the whole pattern, and most steps of a long text come again.
-ghost use mathlib.Core.Path.{_≡_};
+// The symbols that stand for a character. To find them the pattern is read; for most characters of a text that is done once.
 ghost use Prim.Native.Nat.{_<_};
-ghost use Rattle.pattern.specs.Reading.{parse};
-ghost use Rattle.matcher.specs.Matcher.{stepped};
-ghost use Rattle.matcher.specs.Remembered.{slots, Remembers};
-use crate::matcher::Live;
+ghost use Rattle.pattern.specs.Hits.{Hits};
+ghost use Rattle.matcher.specs.Remembered.{Remembers};
+use pattern::hits::hits_of;
 
-// More places would find a step more often and take longer to clear for each text.
-pub(crate) const SLOTS: usize = 128;
+// A place for each character of ASCII. With more places more would be found, and each text would take longer to clear them.
+const PLACES: usize = 128;
 
-// The place of a step. Bits 25 to 31 of the product with 2^32 over the golden ratio keep sets apart that differ little, and the characters
-// of one set lie side by side. That two steps share a place costs time only.
-fn slot_of(set: u64, c: u32) -> usize
-    ensures { λ r. ⌜ r < slots ⌝ }
+// A place has two words: a character, and PLACES further on its symbols.
+pub(crate) const WORDS: usize = 256;
+
+// No symbol has this number: a set with it is known, also where no symbol stands for the character.
+const KNOWN: u64 = 0x8000_0000_0000_0000;
+
+fn place_of(c: u32) -> usize
+    ensures { λ r. ⌜ r < 128 ⌝ }
 {
-    let folded = (set ^ (set >> 31)) % 0x1_0000_0000;
-    ((folded * 0x9e37_79b9 >> 25) as usize + c as usize) % SLOTS
+    c as usize % PLACES
 }
 
-// A step, found in the memory or worked out and put there. The first step is neither: it alone takes the pattern's first symbols.
-pub(crate) fn step_once(
-    live: Live,
-    p: &[u32],
-    c: u32,
-    sets: &mut [u64],
-    characters: &mut [u32],
-    nexts: &mut [u64],
-) -> Live
-    requires { ⌜ Remembers (parse (now p)) (now sets) (now characters) (now nexts) ⌝ }
-    ensures { λ r. ⌜ (r ≡ stepped (parse (now (p .entry))) live c) × Remembers (parse (now (p .entry))) (now (sets .exit)) (now (characters .exit)) (now (nexts .exit)) ⌝ }
+pub(crate) fn hit_once(p: &[u32], c: u32, memory: &mut [u64]) -> u64
+    requires { ⌜ Remembers (now p) (now memory) ⌝ }
+    ensures { λ r. ⌜ Hits (now (p .entry)) c r × Remembers (now (p .entry)) (now (memory .exit)) ⌝ }
 {
-    if !live.begun {
-        return live.step(p, c);
+    let k = place_of(c);
+    let known = memory[PLACES + k];
+    if (memory[k] == c as u64) & (known != 0) {
+        return known;
     }
-    let set = live.set;
-    let k = slot_of(set, c);
-    if (sets[k] == set) & (characters[k] == c) {
-        return Live {
-            begun: true,
-            set: nexts[k],
-        };
-    }
-    let next = live.step(p, c);
-    sets[k] = set;
-    characters[k] = c;
-    nexts[k] = next.set;
-    next
+    let hit = hits_of(p, c) | KNOWN;
+    memory[k] = c as u64;
+    memory[PLACES + k] = hit;
+    hit
 }

@@ -64,7 +64,7 @@ not-negated [] t h = refl
 not-negated (c ∷ s) t h = h
 
 -- the special characters that a character is not
-plain : (c : ℕ) → special c ≡ false
+pub plain : (c : ℕ) → special c ≡ false
     → (eqb c dot ≡ false) × (eqb c backslash ≡ false) × (eqb c openGroup ≡ false) × (eqb c closeGroup ≡ false) × (eqb c openSet ≡ false) × (eqb c bar ≡ false)
     × (eqb c asterisk ≡ false) × (eqb c plusSign ≡ false) × (eqb c questionMark ≡ false)
 unfolding special
@@ -80,7 +80,7 @@ plain c e =
     let k = or-neither _ (eqb c backslash) (h .0) in
     (k .0, k .1, h .1, g .1, o .1, b .1, a .1, p .1, q .1)
 
-symbol-complete : {u : List ℕ} {p : Symbol} → SymbolText u p → (t : List ℕ) → symbol (u ++ t) ≡ front p t
+pub symbol-complete : {u : List ℕ} {p : Symbol} → SymbolText u p → (t : List ℕ) → symbol (u ++ t) ≡ front p t
 unfolding symbol escaped setFrom startsWith
 symbol-complete any-character t = refl
 symbol-complete (plain-character {c = c} e) t = let z = plain c e in rw (z .0, z .1, z .4, e)

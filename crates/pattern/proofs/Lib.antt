@@ -2,7 +2,12 @@ pub mod Offsets
 pub mod Sets
 pub mod Symbols
 pub mod Leaves
+pub mod Automata
+pub mod Linking
 pub mod Parts
+pub mod Sequences
 pub mod Sound
 pub mod Complete
 pub mod Grammar
+pub mod Listed
+pub mod Scanned

@@ -18,7 +18,8 @@ use Rattle.pattern.specs.declared.reader.PatternRead.{PatternRead}
 use Rattle.pattern.specs.declared.reader.PatternRead.the-variants.{BadPattern, Pattern}
 use Rattle.pattern.specs.Regex.{Range, Symbol, inRanges, standsFor, Regex}
 use Rattle.pattern.specs.Reading.{Reading, malformed, front, Part, members, alternatives, sequence, item, repeated}
-use Rattle.pattern.specs.Fragment.{fragmentOf}
+use Rattle.pattern.specs.Automaton.{automatonOf}
+use Rattle.pattern.specs.Links.{Adds}
 
 -- an answer `no` where nothing can be read, else one made of what was read and of the offset of the characters after it
 pub data Gives {A B : Type 0} (s : List ℕ) (no : B) (yes : ℕ → A → B) : B → Reading A → Type 0 where
@@ -39,31 +40,34 @@ GivesSymbol s c = Gives s BadSymbol (λ e p. SymbolTo e (standsFor p c))
 abbrev pub GivesMembers : List ℕ → ℕ → Bool → SymbolRead → Reading (List Range) → Type 0
 GivesMembers s c hit = Gives s BadSymbol (λ e rs. SymbolTo e (hit || inRanges rs c))
 
--- of a part, what it does with the live symbols at c
-abbrev pub GivesPart : List ℕ → ℕ → ℕ → PartRead → Reading Part → Type 0
-GivesPart s live c = Gives s BadPart (λ e p. PartTo e (p .symbols) (fragmentOf (p .regex) live c))
+-- of a part, its sets; what follows its symbols is put into the links
+pub data GivesPart (s before after : List ℕ) : PartRead → Reading Part → Type 0 where
+  bad-part : length after ≡ 64 → GivesPart s before after BadPart malformed
+  good-part : {e : ℕ} {p : Part} → Adds (automatonOf (p .regex) .next) before after
+      → GivesPart s before after (PartTo e (p .symbols) (automatonOf (p .regex) .sets)) (front p (drop e s))
 
 -- the same from an offset on, at any bound on the depth of the calls that is large enough
 abbrev pub ReadsMembers : List ℕ → ℕ → ℕ → Bool → SymbolRead → Type 0
 ReadsMembers s at c hit r = (f : ℕ) → length s - at < f → GivesMembers s c hit r (members f (drop at s))
 
-abbrev pub ReadsAlternatives : List ℕ → ℕ → ℕ → ℕ → ℕ → ℕ → PartRead → Type 0
-ReadsAlternatives s at d k live c r = (f : ℕ) → 3 * (length s - at) + 3 ≤ f → GivesPart s live c r (alternatives f d k (drop at s))
+abbrev pub ReadsAlternatives : List ℕ → ℕ → ℕ → ℕ → List ℕ → List ℕ → PartRead → Type 0
+ReadsAlternatives s at d k before after r = (f : ℕ) → 3 * (length s - at) + 3 ≤ f → GivesPart s before after r (alternatives f d k (drop at s))
 
-abbrev pub ReadsSequence : List ℕ → ℕ → ℕ → ℕ → ℕ → ℕ → PartRead → Type 0
-ReadsSequence s at d k live c r = (f : ℕ) → 3 * (length s - at) + 2 ≤ f → GivesPart s live c r (sequence f d k (drop at s))
+abbrev pub ReadsSequence : List ℕ → ℕ → ℕ → ℕ → List ℕ → List ℕ → PartRead → Type 0
+ReadsSequence s at d k before after r = (f : ℕ) → 3 * (length s - at) + 2 ≤ f → GivesPart s before after r (sequence f d k (drop at s))
 
-abbrev pub ReadsItem : List ℕ → ℕ → ℕ → ℕ → ℕ → ℕ → PartRead → Type 0
-ReadsItem s at d k live c r = (f : ℕ) → 3 * (length s - at) + 1 ≤ f → GivesPart s live c r (item f d k (drop at s))
+abbrev pub ReadsItem : List ℕ → ℕ → ℕ → ℕ → List ℕ → List ℕ → PartRead → Type 0
+ReadsItem s at d k before after r = (f : ℕ) → 3 * (length s - at) + 1 ≤ f → GivesPart s before after r (item f d k (drop at s))
 
 -- the sign after a part is taken with it, whatever the part is
-abbrev pub ReadsRepeat : List ℕ → ℕ → ℕ → Fragment → PartRead → Type 0
-ReadsRepeat s at k g r = (a : Regex ℕ) (live c : ℕ) → g ≡ fragmentOf a live c → GivesPart s live c r (repeated a k (drop at s))
+abbrev pub ReadsRepeat : List ℕ → ℕ → ℕ → Fragment → List ℕ → List ℕ → PartRead → Type 0
+ReadsRepeat s at k g before after r =
+    (a : Regex ℕ) (start : List ℕ) → g ≡ automatonOf a .sets → Adds (automatonOf a .next) start before → GivesPart s start after r (repeated a k (drop at s))
 
--- what the whole pattern does with the live symbols at the character c
-abbrev pub patternAt : Option (Regex ℕ) → ℕ → ℕ → PatternRead
-patternAt none live c = BadPattern
-patternAt (some r) live c = Pattern (fragmentOf r live c)
+-- of the whole pattern, its sets and links
+pub data GivesPattern (before after : List ℕ) : PatternRead → Option (Regex ℕ) → Type 0 where
+  bad-pattern : length after ≡ 64 → GivesPattern before after BadPattern none
+  good-pattern : {r : Regex ℕ} → Adds (automatonOf r .next) before after → GivesPattern before after (Pattern (automatonOf r .sets)) (some r)
 
 abbrev pub negated : SymbolRead → SymbolRead
 negated BadSymbol = BadSymbol

@@ -4,6 +4,7 @@ ghost use mathlib.Core.Bool.{true};
 ghost use Prim.Native.Nat.{_<_};
 ghost use lib.ListN.{length, drop};
 ghost use Rattle.pattern.specs.Character.{special, startsWith};
+ghost use Rattle.pattern.specs.Hits.{between};
 
 pub(crate) const DOT: u32 = 0x2e; // .
 
@@ -38,6 +39,18 @@ pub(crate) fn is_special(x: u32) -> bool
         | (x == CLOSE_GROUP)
         | (x == OPEN_SET)
         | (x == CLOSE_SET)
+        | (x == BAR)
+        | (x == ASTERISK)
+        | (x == PLUS_SIGN)
+        | (x == QUESTION_MARK)
+}
+
+// Whether the character stands between symbols.
+pub(crate) fn is_between(x: u32) -> bool
+    ensures { λ r. ⌜ r ≡ between x ⌝ }
+{
+    (x == OPEN_GROUP)
+        | (x == CLOSE_GROUP)
         | (x == BAR)
         | (x == ASTERISK)
         | (x == PLUS_SIGN)

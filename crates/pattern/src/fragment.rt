@@ -1,13 +1,12 @@
-// Fragments of the pattern's automaton, at a set of live symbols and one character. A set of symbols is a number: bit k is symbol k.
+// The sets of a part of a pattern. A set of symbols is a number: bit k is symbol k.
 ghost use mathlib.Core.Path.{_≡_};
 ghost use Prim.Native.Nat.{_<_};
-ghost use Rattle.pattern.specs.Fragment.{keptIf, emptyFragment, symbolFragment, sequenceFragment, alternativesFragment, optionalFragment, repeatedFragment};
+ghost use Rattle.pattern.specs.Automaton.{keptIf, noFragment, emptyFragment, symbolFragment, sequenceFragment, alternativesFragment, optionalFragment};
 
 pub struct Fragment {
     pub nullable: bool, // matches the empty text
-    pub last: bool, // a live symbol is a last one
-    pub first: u64, // the symbols that may come first and stand for the character
-    pub follow: u64, // those that may follow a live one and stand for it
+    pub first: u64, // the symbols that may come first
+    pub last: u64, // those that may come last
 }
 
 pub fn keep_if(b: bool, set: u64) -> u64
@@ -16,27 +15,37 @@ pub fn keep_if(b: bool, set: u64) -> u64
     if b { set } else { 0 }
 }
 
+// Of no alternative.
+pub(crate) fn make_none() -> Fragment
+    ensures { λ r. ⌜ r ≡ noFragment ⌝ }
+{
+    Fragment {
+        nullable: false,
+        first: 0,
+        last: 0,
+    }
+}
+
 pub(crate) fn make_empty() -> Fragment
     ensures { λ r. ⌜ r ≡ emptyFragment ⌝ }
 {
     Fragment {
         nullable: true,
-        last: false,
         first: 0,
-        follow: 0,
+        last: 0,
     }
 }
 
-// Symbol k of the pattern, which stands for the character or not.
-pub(crate) fn make_symbol(k: usize, hit: bool, live: u64) -> Fragment
+// Of symbol k.
+pub(crate) fn make_symbol(k: usize) -> Fragment
     requires { ⌜ k < 64 ⌝ }
-    ensures { λ r. ⌜ r ≡ symbolFragment k hit live ⌝ }
+    ensures { λ r. ⌜ r ≡ symbolFragment k ⌝ }
 {
+    let set = 1u64 << k;
     Fragment {
         nullable: false,
-        last: (live >> k) % 2 == 1,
-        first: keep_if(hit, 1u64 << k),
-        follow: 0,
+        first: set,
+        last: set,
     }
 }
 
@@ -44,12 +53,11 @@ pub(crate) fn make_sequence(f: Fragment, g: Fragment) -> Fragment
     ensures { λ r. ⌜ r ≡ sequenceFragment f g ⌝ }
 {
     let first = keep_if(f.nullable, g.first);
-    let over = keep_if(f.last, g.first);
+    let last = keep_if(g.nullable, f.last);
     Fragment {
         nullable: f.nullable & g.nullable,
-        last: (f.last & g.nullable) | g.last,
         first: f.first | first,
-        follow: (f.follow | g.follow) | over,
+        last: g.last | last,
     }
 }
 
@@ -58,9 +66,8 @@ pub(crate) fn make_alternatives(f: Fragment, g: Fragment) -> Fragment
 {
     Fragment {
         nullable: f.nullable | g.nullable,
-        last: f.last | g.last,
         first: f.first | g.first,
-        follow: f.follow | g.follow,
+        last: f.last | g.last,
     }
 }
 
@@ -69,20 +76,7 @@ pub(crate) fn make_optional(f: Fragment) -> Fragment
 {
     Fragment {
         nullable: true,
-        last: f.last,
         first: f.first,
-        follow: f.follow,
-    }
-}
-
-pub(crate) fn make_repeated(f: Fragment) -> Fragment
-    ensures { λ r. ⌜ r ≡ repeatedFragment f ⌝ }
-{
-    let over = keep_if(f.last, f.first);
-    Fragment {
-        nullable: f.nullable,
         last: f.last,
-        first: f.first,
-        follow: f.follow | over,
     }
 }

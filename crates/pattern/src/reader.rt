@@ -1,9 +1,9 @@
 // The reader of a pattern: alternatives hold sequences, sequences hold items, an item may be a group of alternatives. In one pass it works out
-// what the pattern does with the live symbols at one character, so that nothing of the pattern has to be kept.
+// the pattern's sets, and what may follow each of its symbols.
 ghost use mathlib.Core.Path.{_≡_};
-ghost use lib.ListN.{drop};
+ghost use lib.ListN.{length, drop};
 ghost use Rattle.pattern.specs.Reading.{parse, symbolItem, ends, wellFormed};
-ghost use Rattle.pattern.specs.Answers.{GivesPart, ReadsRepeat, ReadsAlternatives, ReadsSequence, ReadsItem, patternAt};
+ghost use Rattle.pattern.specs.Answers.{GivesPart, ReadsRepeat, ReadsAlternatives, ReadsSequence, ReadsItem, GivesPattern};
 use crate::character::ASTERISK;
 use crate::character::BAR;
 use crate::character::CLOSE_GROUP;
@@ -14,10 +14,12 @@ use crate::character::is_at;
 use crate::fragment::Fragment;
 use crate::fragment::make_alternatives;
 use crate::fragment::make_empty;
+use crate::fragment::make_none;
 use crate::fragment::make_optional;
-use crate::fragment::make_repeated;
 use crate::fragment::make_sequence;
 use crate::fragment::make_symbol;
+use crate::links::LINKS;
+use crate::links::link;
 use crate::symbol::SymbolRead;
 use crate::symbol::read_symbol;
 
@@ -40,14 +42,17 @@ pub enum PatternRead {
 }
 
 // The part before `at`, with the sign at `at` if there is one.
-fn read_repeat(s: &[u32], at: usize, k: usize, f: Fragment) -> PartRead
-    ensures { λ r. ⌜ ReadsRepeat (now (s .entry)) at k f r ⌝ }
+fn read_repeat(s: &[u32], at: usize, k: usize, f: Fragment, links: &mut [u64]) -> PartRead
+    requires { ⌜ length (now links) ≡ 64 ⌝ }
+    ensures { λ r. ⌜ ReadsRepeat (now (s .entry)) at k f (now (links .entry)) (now (links .exit)) r ⌝ }
 {
     if is_at(s, at, ASTERISK) {
-        return PartRead::PartTo(at + 1, k, make_optional(make_repeated(f)));
+        link(links, f.last, f.first);
+        return PartRead::PartTo(at + 1, k, make_optional(f));
     }
     if is_at(s, at, PLUS_SIGN) {
-        return PartRead::PartTo(at + 1, k, make_repeated(f));
+        link(links, f.last, f.first);
+        return PartRead::PartTo(at + 1, k, f);
     }
     if is_at(s, at, QUESTION_MARK) {
         return PartRead::PartTo(at + 1, k, make_optional(f));
@@ -66,79 +71,93 @@ fn ends_at(s: &[u32], at: usize) -> bool
 }
 
 // The k-th symbol, with its sign.
-fn read_symbol_item(s: &[u32], at: usize, k: usize, live: u64, c: u32) -> PartRead
-    ensures { λ r. ⌜ GivesPart (now (s .entry)) live c r (symbolItem k (drop at (now (s .entry)))) ⌝ }
+fn read_symbol_item(s: &[u32], at: usize, k: usize, links: &mut [u64]) -> PartRead
+    requires { ⌜ length (now links) ≡ 64 ⌝ }
+    ensures { λ r. ⌜ GivesPart (now (s .entry)) (now (links .entry)) (now (links .exit)) r (symbolItem k (drop at (now (s .entry)))) ⌝ }
 {
     if MOST_SYMBOLS <= k {
         return PartRead::BadPart;
     }
-    match read_symbol(s, at, c) {
+    match read_symbol(s, at, 0) {
         SymbolRead::BadSymbol => PartRead::BadPart,
-        SymbolRead::SymbolTo(e, hit) => read_repeat(s, e, k + 1, make_symbol(k, hit, live)),
+        SymbolRead::SymbolTo(e, _) => read_repeat(s, e, k + 1, make_symbol(k), links),
     }
 }
 
 // `depth`: the groups around the part; `k`: the symbols before it.
-fn read_alternatives(s: &[u32], at: usize, depth: usize, k: usize, live: u64, c: u32) -> PartRead
-    ensures { λ r. ⌜ ReadsAlternatives (now (s .entry)) at depth k live c r ⌝ }
+fn read_alternatives(s: &[u32], at: usize, depth: usize, k: usize, links: &mut [u64]) -> PartRead
+    requires { ⌜ length (now links) ≡ 64 ⌝ }
+    ensures { λ r. ⌜ ReadsAlternatives (now (s .entry)) at depth k (now (links .entry)) (now (links .exit)) r ⌝ }
 {
-    match read_sequence(s, at, depth, k, live, c) {
-        PartRead::BadPart => PartRead::BadPart,
-        PartRead::PartTo(e, m, f) => {
-            if !is_at(s, e, BAR) {
-                return PartRead::PartTo(e, m, f);
-            }
-            match read_alternatives(s, e + 1, depth, m, live, c) {
-                PartRead::BadPart => PartRead::BadPart,
-                PartRead::PartTo(e2, m2, g) => PartRead::PartTo(e2, m2, make_alternatives(f, g)),
+    let mut i = at;
+    let mut n = k;
+    let mut whole = make_none();
+    loop {
+        match read_sequence(s, i, depth, n, links) {
+            PartRead::BadPart => return PartRead::BadPart,
+            PartRead::PartTo(e, m, f) => {
+                whole = make_alternatives(whole, f);
+                if !is_at(s, e, BAR) {
+                    return PartRead::PartTo(e, m, whole);
+                }
+                i = e + 1;
+                n = m;
             }
         }
     }
 }
 
-fn read_sequence(s: &[u32], at: usize, depth: usize, k: usize, live: u64, c: u32) -> PartRead
-    ensures { λ r. ⌜ ReadsSequence (now (s .entry)) at depth k live c r ⌝ }
+fn read_sequence(s: &[u32], at: usize, depth: usize, k: usize, links: &mut [u64]) -> PartRead
+    requires { ⌜ length (now links) ≡ 64 ⌝ }
+    ensures { λ r. ⌜ ReadsSequence (now (s .entry)) at depth k (now (links .entry)) (now (links .exit)) r ⌝ }
 {
-    if ends_at(s, at) {
-        return PartRead::PartTo(at, k, make_empty());
+    let mut i = at;
+    let mut n = k;
+    let mut whole = make_empty();
+    while !ends_at(s, i) {
+        match read_item(s, i, depth, n, links) {
+            PartRead::BadPart => return PartRead::BadPart,
+            PartRead::PartTo(e, m, f) => {
+                link(links, whole.last, f.first);
+                whole = make_sequence(whole, f);
+                i = e;
+                n = m;
+            }
+        }
     }
-    match read_item(s, at, depth, k, live, c) {
-        PartRead::BadPart => PartRead::BadPart,
-        PartRead::PartTo(e, m, f) => match read_sequence(s, e, depth, m, live, c) {
-            PartRead::BadPart => PartRead::BadPart,
-            PartRead::PartTo(e2, m2, g) => PartRead::PartTo(e2, m2, make_sequence(f, g)),
-        },
-    }
+    PartRead::PartTo(i, n, whole)
 }
 
-fn read_item(s: &[u32], at: usize, depth: usize, k: usize, live: u64, c: u32) -> PartRead
-    ensures { λ r. ⌜ ReadsItem (now (s .entry)) at depth k live c r ⌝ }
+fn read_item(s: &[u32], at: usize, depth: usize, k: usize, links: &mut [u64]) -> PartRead
+    requires { ⌜ length (now links) ≡ 64 ⌝ }
+    ensures { λ r. ⌜ ReadsItem (now (s .entry)) at depth k (now (links .entry)) (now (links .exit)) r ⌝ }
 {
     if !is_at(s, at, OPEN_GROUP) {
-        return read_symbol_item(s, at, k, live, c);
+        return read_symbol_item(s, at, k, links);
     }
     if DEEPEST_GROUP <= depth {
         return PartRead::BadPart;
     }
-    match read_alternatives(s, at + 1, depth + 1, k, live, c) {
+    match read_alternatives(s, at + 1, depth + 1, k, links) {
         PartRead::BadPart => PartRead::BadPart,
         PartRead::PartTo(e, m, f) => {
             if !is_at(s, e, CLOSE_GROUP) {
                 return PartRead::BadPart;
             }
-            read_repeat(s, e + 1, m, f)
+            read_repeat(s, e + 1, m, f, links)
         }
     }
 }
 
-// The whole pattern, at a set of live symbols and one character.
-pub fn read_pattern(p: &[u32], live: u64, c: u32) -> PatternRead
-    ensures { λ r. ⌜ r ≡ patternAt (parse (now (p .entry))) live c ⌝ }
+// The whole pattern: its sets, and what follows each symbol.
+pub fn read_pattern(p: &[u32], links: &mut [u64]) -> PatternRead
+    requires { ⌜ length (now links) ≡ 64 ⌝ }
+    ensures { λ r. ⌜ GivesPattern (now (links .entry)) (now (links .exit)) r (parse (now (p .entry))) ⌝ }
 {
     if MOST_CHARACTERS < p.len() {
         return PatternRead::BadPattern;
     }
-    match read_alternatives(p, 0, 0, 0, live, c) {
+    match read_alternatives(p, 0, 0, 0, links) {
         PartRead::BadPart => PatternRead::BadPattern,
         PartRead::PartTo(e, _, f) => {
             if e < p.len() {
@@ -154,7 +173,8 @@ pub fn read_pattern(p: &[u32], live: u64, c: u32) -> PatternRead
 pub fn check_pattern(p: &[u32]) -> bool
     ensures { λ r. ⌜ r ≡ wellFormed (now (p .entry)) ⌝ }
 {
-    match read_pattern(p, 0, 0) {
+    let mut links = [0u64; LINKS];
+    match read_pattern(p, &mut links) {
         PatternRead::BadPattern => false,
         PatternRead::Pattern(_) => true,
     }

@@ -9,7 +9,7 @@ keep-if-requires-2 : tie.Need-keep-if-requires-2
 keep-if-requires-2 c κs = search needs
 
 returns : tie.Need-returns
-returns c = rw (c .before .before .before .before .before .before .before .before .before .keep-if .ensures, c .before .before .before .before .before .before .before .before .keep-if2 .ensures)
+returns c = rw (c .before .before .before .before .before .keep-if .ensures, c .before .before .before .before .keep-if2 .ensures)
 
 pub make-sequence-spec : {M : Type 1} → statement M
 make-sequence-spec = tie.close (tie.spec keep-if-requires keep-if-requires-2 returns)

@@ -15,11 +15,20 @@ enum-told c = search needs
 enum-known-e : tie.Need-enum-known-e
 enum-known-e c = search needs
 
+same-length : tie.Need-same-length
+same-length c = search needs
+
 returns-2 : tie.Need-returns-2
 returns-2 c = search law.pattern-bad
 
+same-length-2 : tie.Need-same-length-2
+same-length-2 c = search needs
+
 returns-3 : tie.Need-returns-3
 returns-3 c = search law.pattern-rest
+
+same-length-3 : tie.Need-same-length-3
+same-length-3 c = search needs
 
 returns-4 : tie.Need-returns-4
 returns-4 c = search law.pattern-whole
@@ -32,6 +41,9 @@ read-pattern-spec =
     read-alternatives-requires
     enum-told
     enum-known-e
+    same-length
     returns-2
+    same-length-2
     returns-3
+    same-length-3
     returns-4)

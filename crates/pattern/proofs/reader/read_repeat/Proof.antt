@@ -7,14 +7,17 @@ use Rattle.pattern.proofs.reader.read_repeat.Tie as tie
 is-at-requires : tie.Need-is-at-requires
 is-at-requires c κs = search needs
 
-add-t6 : tie.Need-add-t6
-add-t6 c = let h = c .before .is-at .ensures .1 (c .if1 .taken) in omega arith
+link-requires : tie.Need-link-requires
+link-requires c κs = search needs
 
-make-repeated-requires : tie.Need-make-repeated-requires
-make-repeated-requires c κs = search needs
+add-t10 : tie.Need-add-t10
+add-t10 c = let h = c .before .before .before .before .before .is-at .ensures .1 (c .before .before .before .before .if1 .taken) in omega arith
 
 make-optional-requires : tie.Need-make-optional-requires
 make-optional-requires c κs = search needs
+
+same-length : tie.Need-same-length
+same-length c = search needs
 
 returns : tie.Need-returns
 returns c = search law.repeat-star
@@ -22,11 +25,14 @@ returns c = search law.repeat-star
 is-at-requires-2 : tie.Need-is-at-requires-2
 is-at-requires-2 c κs = search needs
 
-add-t10 : tie.Need-add-t10
-add-t10 c = let h = c .before .is-at2 .ensures .1 (c .if2 .taken) in omega arith
+link-requires-2 : tie.Need-link-requires-2
+link-requires-2 c κs = search needs
 
-make-repeated-requires-2 : tie.Need-make-repeated-requires-2
-make-repeated-requires-2 c κs = search needs
+add-t16 : tie.Need-add-t16
+add-t16 c = let h = c .before .before .before .before .before .is-at2 .ensures .1 (c .before .before .before .before .if2 .taken) in omega arith
+
+same-length-2 : tie.Need-same-length-2
+same-length-2 c = search needs
 
 returns-2 : tie.Need-returns-2
 returns-2 c = search law.repeat-plus
@@ -34,8 +40,8 @@ returns-2 c = search law.repeat-plus
 is-at-requires-3 : tie.Need-is-at-requires-3
 is-at-requires-3 c κs = search needs
 
-add-t13 : tie.Need-add-t13
-add-t13 c = let h = c .before .is-at3 .ensures .1 (c .if3 .taken) in omega arith
+add-t18 : tie.Need-add-t18
+add-t18 c = let h = c .before .is-at3 .ensures .1 (c .if3 .taken) in omega arith
 
 make-optional-requires-2 : tie.Need-make-optional-requires-2
 make-optional-requires-2 c κs = search needs
@@ -51,16 +57,18 @@ read-repeat-spec =
     tie.close
     (tie.spec
     is-at-requires
-    add-t6
-    make-repeated-requires
+    link-requires
+    add-t10
     make-optional-requires
+    same-length
     returns
     is-at-requires-2
-    add-t10
-    make-repeated-requires-2
+    link-requires-2
+    add-t16
+    same-length-2
     returns-2
     is-at-requires-3
-    add-t13
+    add-t18
     make-optional-requires-2
     returns-3
     returns-4)

@@ -27,6 +27,9 @@ read-repeat-requires c κs = search needs
 returns-2 : tie.Need-returns-2
 returns-2 c = search law.symbol-none
 
+same-length : tie.Need-same-length
+same-length c = search needs
+
 returns-3 : tie.Need-returns-3
 returns-3 c = search law.symbol-item
 
@@ -42,4 +45,5 @@ read-symbol-item-spec =
     make-symbol-requires
     read-repeat-requires
     returns-2
+    same-length
     returns-3)

@@ -1,0 +1,181 @@
+-- One law for each way out of the functions over sets of symbols and links. Assumes nothing.
+use mathlib.Core.Path.{_≡_, refl, ap, ap₂, subst, sym as inv, _∙_}
+use mathlib.Core.Bool.{Bool, true, false, not, _&&_, _||_}
+use mathlib.Core.List.{List}
+use Prim.Native.Nat.{ℕ, zero, suc, _≤_, _<_, _+_, _*_, _/_, _%_, _^_}
+use native.Mathlib.Omega.{arith}
+use native.Mathlib.Decide.{ℕ-discrete}
+use native.Mathlib.Nat.{one-mul, mod-lt}
+use lib.Pow.{shl-exact, pow-pos}
+use lib.Count.{under, trailingZeros}
+use lib.Bits.{bitOr, bitAnd, bitXor, xor-add-and, or-comm, or-zero-r}
+use lib.Dec.{eqb}
+use lib.ListN.{length, getD, set, length-set}
+use lib.Seq.{getD-set-same, getD-set-other}
+use Rattle.base.specs.Bits.{bit}
+use Rattle.base.proofs.Bits.{bit-or, bit-and, bit-xor, either, bit-zero, bit-same, bit-other, half-bit, digit-zero, same-members, or-assoc}
+use Rattle.pattern.specs.Automaton.{keptIf, over}
+use Rattle.pattern.specs.Links.{Without, Adds, anyBelow, leads, Gathers}
+
+-- ---- the least member
+
+-- below its k lowest digits a number that is not 0 there has a digit that is set, and the least one is counted to
+least-digit : (k n : ℕ) → (n ≡ 0 → ⊥) → n < 2 ^ k → (trailingZeros k n < k) × (bit n (trailingZeros k n) ≡ true)
+unfolding trailingZeros
+least-digit zero n z l = absurd (z (omega arith))
+least-digit (suc k) n z l = go (n % 2) refl (λ half. least-digit k (n / 2) half (omega arith))
+  where
+    go : (d : ℕ) → n % 2 ≡ d → ((n / 2 ≡ 0 → ⊥) → (trailingZeros k (n / 2) < k) × (bit (n / 2) (trailingZeros k (n / 2)) ≡ true))
+        → (under d (trailingZeros k (n / 2)) < suc k) × (bit n (under d (trailingZeros k (n / 2))) ≡ true)
+    go zero e least = let x = least (λ h. z (omega (arith, e, h))) in (
+      omega (arith, x .0),
+      ap (λ (j : ℕ). bit n j) (omega arith) ∙ inv (half-bit n (trailingZeros k (n / 2))) ∙ x .1,
+    )
+    go (suc d) e least =
+        let l : n % 2 < 2 = mod-lt n (omega arith) in
+        let b : suc d ≡ 1 = omega (arith, e, l) in
+        (omega arith, digit-zero n ∙ ap (λ (x : ℕ). eqb x 1) (e ∙ b))
+
+pub least-in : (n : ℕ) → (n ≡ 0 → ⊥) → n < 2 ^ 64 → (trailingZeros 64 n < 64) × (bit n (trailingZeros 64 n) ≡ true)
+least-in n z l = least-digit 64 n z l
+
+-- ---- without a member
+
+-- a bit shifted to its place is a set of one
+pub shl-one : (k : ℕ) → k < 64 → 1 * 2 ^ k % 2 ^ 64 ≡ 2 ^ k
+shl-one k h = shl-exact {a = 1} 1 k 64 (omega arith) (omega arith) ∙ one-mul (2 ^ k)
+
+module _ (S k : ℕ) (member : bit S k ≡ true) where
+  met : bitAnd S (2 ^ k) ≡ 2 ^ k
+  met = same-members (bitAnd S (2 ^ k)) (2 ^ k) (λ i. bit-and S (2 ^ k) i ∙ at i (ℕ-discrete i k))
+    where
+      at : (i : ℕ) → Dec (i ≡ k) → (bit S i && bit (2 ^ k) i) ≡ bit (2 ^ k) i
+      at i (yes e) = rw (e, member)
+      at i (no e) = rw (bit-other k i e) (none (bit S i))
+        where
+          none : (b : Bool) → (b && false) ≡ false
+          none true = refl
+          none false = refl
+
+  pub without-member : (r : ℕ) → r ≡ bitXor S (2 ^ k) → Without S k r
+  without-member r e = record {
+    fewer = omega (arith, e, xor-add-and S (2 ^ k), met, pow-pos k);
+    gone = ap (λ (x : ℕ). bit x k) e ∙ bit-xor S (2 ^ k) k ∙ rw (member, bit-same k);
+    others = λ i d. ap (λ (x : ℕ). bit x i) e ∙ bit-xor S (2 ^ k) i ∙ rw (bit-other k i d) (same (bit S i));
+  }
+    where
+      same : (b : Bool) → either b false ≡ b
+      same true = refl
+      same false = refl
+
+-- ---- links put behind symbols, one symbol after the other
+
+-- where the loop stands: what is left of the set is still to be linked
+pub record Linking (last first : ℕ) (before : List ℕ) (left : ℕ) (links : List ℕ) : Type 0 where
+  pub each : (j : ℕ) → j < 64 → bitOr (getD links j 0) (over left first j) ≡ bitOr (getD before j 0) (over last first j)
+  pub all : length links ≡ 64
+
+module _ (last first : ℕ) (before : List ℕ) where
+  pub linking-start : length before ≡ 64 → Linking last first before last before
+  linking-start l = record { each = λ j h. refl; all = l }
+
+  module _ {left : ℕ} {links : List ℕ} (here : Linking last first before left links) where
+    pub linking-next : {k rest : ℕ} → (k < 64) × (bit left k ≡ true) → Without left k rest
+        → Linking last first before rest (set links k (bitOr (getD links k 0) first))
+    linking-next {k} {rest} member w = record {
+      each = λ j h. at j h (ℕ-discrete j k);
+      all = length-set links k (bitOr (getD links k 0) first) ∙ here .all;
+    }
+      where
+        at : (j : ℕ) → j < 64 → Dec (j ≡ k)
+            → bitOr (getD (set links k (bitOr (getD links k 0) first)) j 0) (over rest first j) ≡ bitOr (getD before j 0) (over last first j)
+        at j h (yes e) =
+            let room : k < length links = omega (arith, here .all, member .0) in
+            ap (λ (n : ℕ). bitOr (getD (set links k (bitOr (getD links k 0) first)) n 0) (over rest first n)) e
+            ∙ ap₂ bitOr (getD-set-same links k (bitOr (getD links k 0) first) 0 room) (ap (λ (b : Bool). keptIf b first) (w .gone))
+            ∙ or-zero-r (bitOr (getD links k 0) first)
+            ∙ ap (λ (b : Bool). bitOr (getD links k 0) (keptIf b first)) (inv (member .1))
+            ∙ here .each k (member .0)
+            ∙ ap (λ (n : ℕ). bitOr (getD before n 0) (over last first n)) (inv e)
+        at j h (no e) =
+            ap₂ bitOr (getD-set-other links k j (bitOr (getD links k 0) first) 0 e) (ap (λ (b : Bool). keptIf b first) (w .others j e))
+            ∙ here .each j h
+
+    pub linking-end : left ≡ 0 → Adds (over last first) before links
+    linking-end z = record {
+      each = λ j h.
+          inv (or-zero-r (getD links j 0))
+          ∙ ap (λ (b : Bool). bitOr (getD links j 0) (keptIf b first)) (inv (bit-zero j))
+          ∙ ap (λ (n : ℕ). bitOr (getD links j 0) (over n first j)) (inv z)
+          ∙ here .each j h;
+      all = here .all;
+    }
+
+-- ---- the symbols that may follow one of a set
+
+swap : (x y z : Bool) → ((x || y) || z) ≡ (x || (y || z))
+swap true y z = refl
+swap false y z = refl
+
+turn : (x y z : Bool) → (x || (y || z)) ≡ (y || (x || z))
+turn true true z = refl
+turn true false z = refl
+turn false y z = refl
+
+pub any-same : (n : ℕ) (f g : ℕ → Bool) → ((j : ℕ) → j < n → f j ≡ g j) → anyBelow n f ≡ anyBelow n g
+unfolding anyBelow
+any-same zero f g e = refl
+any-same (suc n) f g e = ap₂ _||_ (e n (omega arith)) (any-same n f g (λ j h. e j (omega arith)))
+
+-- one number is tried apart from the others
+any-but : (n k : ℕ) (f g : ℕ → Bool) → k < n → g k ≡ false → ((j : ℕ) → (j ≡ k → ⊥) → g j ≡ f j) → anyBelow n f ≡ (f k || anyBelow n g)
+unfolding anyBelow
+any-but zero k f g h z e = absurd (omega arith)
+any-but (suc n) k f g h z e = go (ℕ-discrete k n) (λ l. any-but n k f g l z e)
+  where
+    go : Dec (k ≡ n) → (k < n → anyBelow n f ≡ (f k || anyBelow n g)) → (f n || anyBelow n f) ≡ (f k || (g n || anyBelow n g))
+    go (yes q) but =
+        ap₂ _||_ (ap f (inv q)) (any-same n f g (λ j l. inv (e j (omega (arith, q)))))
+        ∙ ap (λ (b : Bool). f k || (b || anyBelow n g)) (inv (ap g (inv q) ∙ z))
+    go (no q) but =
+        ap₂ _||_ (inv (e n (λ r. q (inv r)))) (but (omega arith))
+        ∙ turn (g n) (f k) (anyBelow n g)
+
+-- where the loop stands: what is found, and what the rest leads to, is what the set leads to
+pub record Gathering (links : List ℕ) (S left found : ℕ) : Type 0 where
+  pub leading : (i : ℕ) → (bit found i || leads (λ j. getD links j 0) left i) ≡ leads (λ j. getD links j 0) S i
+
+module _ (links : List ℕ) (S : ℕ) where
+  pub gathering-start : Gathering links S S 0
+  gathering-start = record { leading = λ i. ap (λ (b : Bool). b || leads (λ j. getD links j 0) S i) (bit-zero i) }
+
+  module _ {left found : ℕ} (here : Gathering links S left found) where
+    pub gathering-next : {k rest : ℕ} → (k < 64) × (bit left k ≡ true) → Without left k rest → Gathering links S rest (bitOr found (getD links k 0))
+    gathering-next {k} {rest} member w = record {
+      leading = λ i.
+          ap (λ (b : Bool). b || leads (λ j. getD links j 0) rest i) (bit-or found (getD links k 0) i)
+          ∙ swap (bit found i) (bit (getD links k 0) i) (leads (λ j. getD links j 0) rest i)
+          ∙ ap (λ (b : Bool). bit found i || b)
+          (ap (λ (b : Bool). (b && bit (getD links k 0) i) || leads (λ j. getD links j 0) rest i) (inv (member .1))
+          ∙ inv
+          (any-but 64 k (λ j. bit left j && bit (getD links j 0) i) (λ j. bit rest j && bit (getD links j 0) i) (member .0)
+          (ap (λ (b : Bool). b && bit (getD links k 0) i) (w .gone))
+          (λ j d. ap (λ (b : Bool). b && bit (getD links j 0) i) (w .others j d))))
+          ∙ here .leading i;
+    }
+
+    pub gathering-end : left ≡ 0 → Gathers links S found
+    unfolding anyBelow
+    gathering-end z i =
+        inv (or-false (bit found i))
+        ∙ ap (λ (b : Bool). bit found i || b) (inv (none i 64))
+        ∙ ap (λ (n : ℕ). bit found i || leads (λ j. getD links j 0) n i) (inv z)
+        ∙ here .leading i
+      where
+        or-false : (b : Bool) → (b || false) ≡ b
+        or-false true = refl
+        or-false false = refl
+
+        none : (i n : ℕ) → anyBelow n (λ j. bit 0 j && bit (getD links j 0) i) ≡ false
+        none i zero = refl
+        none i (suc n) = rw (bit-zero n) (none i n)
