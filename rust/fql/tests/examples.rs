@@ -1,4 +1,4 @@
-//! The examples with hand-written answers, on the engine and on the second evaluator.
+//! The examples with hand-written answers, on the engine, the second evaluator and the tuned engine.
 
 mod common;
 

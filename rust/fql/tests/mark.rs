@@ -1,4 +1,5 @@
-//! Mark on the engine and on the second evaluator: runs with hand-written marks and totals, and random ones.
+//! Mark on the engine, the second evaluator and the tuned engine: runs with hand-written marks and totals, and random
+//! ones.
 
 mod common;
 

@@ -1,5 +1,5 @@
 //! Only the properties that a query names count: two conforming instances that hold the same records for these have the
-//! same answer, verdict and steps, however else they differ; on the engine and on the second evaluator.
+//! same answer, verdict and steps, however else they differ; on the engine, the second evaluator and the tuned engine.
 
 mod common;
 

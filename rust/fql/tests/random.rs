@@ -1,4 +1,5 @@
-//! Random, damaged and boundary inputs, on the engine and on the second evaluator: verdict, steps, number and place.
+//! Random, damaged and boundary inputs, on the engine, the second evaluator and the tuned engine: verdict, steps, number
+//! and place.
 
 mod common;
 
@@ -16,7 +17,7 @@ const LEAST: usize = 250;
 fn try_case(case: &Case) -> Result<reference::Answer, reference::Refusal> {
     let found = agree(&case.query, &case.table, &case.instance);
     let shown = || call("agree", &[&case.query, &case.table, &case.instance]);
-    assert!(case.is_intended(found), "{}: both say {found:?} in place of {:?}:\n{}", case.sort, case.intended, shown());
+    assert!(case.is_intended(found), "{}: all say {found:?} in place of {:?}:\n{}", case.sort, case.intended, shown());
     if let Ok(answer) = found {
         let most = bound(&case.query, &case.table, &case.instance).unwrap();
         assert!(answer.steps <= most, "{} steps, more than the bound {most}:\n{}", answer.steps, shown());

@@ -1,5 +1,5 @@
 //! The same whole numbers in other integer types, in table and instance alike: the check says the same, number and
-//! place, and so does the evaluation, verdict and steps; on the engine and on the second evaluator.
+//! place, and so does the evaluation, verdict and steps; on the engine, the second evaluator and the tuned engine.
 
 mod common;
 

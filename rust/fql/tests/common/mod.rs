@@ -1,5 +1,5 @@
-//! The engine and the second evaluator on one input. A difference ends the test with a line that can be pasted into
-//! one. Each test file uses some of it.
+//! The engine, the second evaluator and the benchmark's tuned engine on one input. A difference ends the test with a
+//! line that can be pasted into one. Each test file uses some of it.
 #![allow(dead_code)]
 
 pub mod often;
@@ -25,28 +25,70 @@ fn totals(t: fql::Totals) -> Totals {
     Totals { included: t.included, excluded: t.excluded, failed: t.failed }
 }
 
+/// What the tuned engine says, as the second evaluator would.
+mod tuned_engine {
+    use reference::{Answer, Refusal, Totals};
+
+    fn refusal(r: tuned::Refusal) -> Refusal {
+        Refusal { number: r.number, place: r.place }
+    }
+
+    pub fn check(query: &[u8], table: &[u8]) -> Result<(), Refusal> {
+        tuned::check(query, table).map_err(refusal)
+    }
+
+    pub fn evaluate(query: &[u8], table: &[u8], instance: &[u8]) -> Result<Answer, Refusal> {
+        let found = tuned::evaluate(query, table, instance);
+        found.map(|a| Answer { included: a.included, steps: a.steps }).map_err(refusal)
+    }
+
+    pub fn mark(query: &[u8], table: &[u8], run: &[u8], marks: &mut [u8]) -> Result<Totals, Refusal> {
+        let found = tuned::mark(query, table, run, marks);
+        found.map(|t| Totals { included: t.included, excluded: t.excluded, failed: t.failed }).map_err(refusal)
+    }
+}
+
+/// What all three say.
+fn same_of_three<T: PartialEq + Debug>(found: [T; 3], shown: impl Fn() -> String) -> T {
+    let [engine, second, tuned] = found;
+    let agree = engine == second && second == tuned;
+    assert!(
+        agree,
+        "the engine says {engine:?}, the second evaluator {second:?}, the tuned engine {tuned:?}:\n{}",
+        shown()
+    );
+    engine
+}
+
 fn same<T: PartialEq + Debug>(found: T, expected: T, shown: impl Fn() -> String) -> T {
     assert!(found == expected, "the engine says {found:?}, the second evaluator {expected:?}:\n{}", shown());
     found
 }
 
-/// What both say of a query on an instance.
+/// What all three say of a query on an instance.
 pub fn agree(query: &[u8], table: &[u8], instance: &[u8]) -> Found {
     let shown = || call("agree", &[query, table, instance]);
-    let _ = same(fql::check(query, table).map_err(refusal), reference::check(query, table), shown);
+    let checked = fql::check(query, table).map_err(refusal);
+    let _ = same_of_three([checked, reference::check(query, table), tuned_engine::check(query, table)], shown);
     let found = fql::evaluate(query, table, instance).map(answer).map_err(refusal);
-    same(found, reference::evaluate(query, table, instance), shown)
+    let tuned = tuned_engine::evaluate(query, table, instance);
+    same_of_three([found, reference::evaluate(query, table, instance), tuned], shown)
 }
 
-/// What both say of a query on a run, and the marks that both leave behind.
+/// What all three say of a query on a run, and the marks that they leave behind.
 pub fn agree_on_marks(query: &[u8], table: &[u8], run: &[u8], marks: &[u8]) -> (Result<Totals, Refusal>, Vec<u8>) {
-    let (mut found, mut expected) = (marks.to_vec(), marks.to_vec());
-    let totals = fql::mark(query, table, run, &mut found).map(totals).map_err(refusal);
-    let expected_totals = reference::mark(query, table, run, &mut expected);
-    same((totals, found), (expected_totals, expected), || call("agree_on_marks", &[query, table, run, marks]))
+    let [mut first, mut second, mut third] = [marks, marks, marks].map(<[u8]>::to_vec);
+    let found = [
+        fql::mark(query, table, run, &mut first).map(totals).map_err(refusal),
+        reference::mark(query, table, run, &mut second),
+        tuned_engine::mark(query, table, run, &mut third),
+    ];
+    let mut marks_left = [first, second, third].into_iter();
+    let found = found.map(|totals| (totals, marks_left.next().unwrap()));
+    same_of_three(found, || call("agree_on_marks", &[query, table, run, marks]))
 }
 
-/// The mark for what both say of an instance by itself, under a query that the check accepts.
+/// The mark for what all three say of an instance by itself, under a query that the check accepts.
 pub fn mark_of_evaluate(query: &[u8], table: &[u8], instance: &[u8]) -> u8 {
     match agree(query, table, instance) {
         Ok(answer) if answer.included => fql::INCLUDED,

@@ -1,4 +1,4 @@
-//! Two inputs of one query on both evaluators: the same answer, or how often there are two.
+//! Two inputs of one query on all evaluators: the same answer, or how often there are two.
 
 use reference::cases::{call, Input};
 
