@@ -1,21 +1,22 @@
 //! Two queries made into one, beside the second evaluator and beside the two checks that a call begins with.
 
-use crate::clock::{compare, Call};
+use crate::clock::{compare, Contestant};
 
 pub fn run() {
     println!("\nconjoin: nanoseconds for each call");
     println!("{:46}{:>12}{:>18}{:>8}{:>12}", "queries", "engine", "second evaluator", "ratio", "two checks");
-    let table = crate::data::table(0);
+    let table = crate::data::table();
     for (name, first, second) in pairs() {
         let (first, second) = (first.as_bytes(), second.as_bytes());
         let [mut buffer, mut other] = [[0; fql::LONGEST_QUERY]; 2];
         let length = fql::conjoin(first, second, &table, &mut buffer).unwrap();
         assert_eq!(reference::conjoin(first, second, &table, &mut other), Ok(length));
         assert_eq!(buffer, other, "{name}");
-        let engine: Call = Box::new(|| fql::conjoin(first, second, &table, &mut buffer).unwrap() as u64);
-        let peer: Call = Box::new(|| reference::conjoin(first, second, &table, &mut other).unwrap() as u64);
-        let checks: Call = Box::new(|| [first, second].iter().filter(|q| fql::check(q, &table).is_ok()).count() as u64);
-        let times = compare(&mut [engine, peer, checks]);
+        let times = compare(&mut [
+            Contestant::new(|| fql::conjoin(first, second, &table, &mut buffer).unwrap() as u64),
+            Contestant::new(|| reference::conjoin(first, second, &table, &mut other).unwrap() as u64),
+            Contestant::new(|| [first, second].iter().filter(|q| fql::check(q, &table).is_ok()).count() as u64),
+        ]);
         let name = format!("{name}, {length} bytes");
         println!("{name:46}{:>12.0}{:>18.0}{:>8.2}{:>12.0}", times[0], times[1], times[0] / times[1], times[2]);
     }

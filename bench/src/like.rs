@@ -1,54 +1,81 @@
-//! LIKE beside RE2 on the same patterns and texts, over the whole text. The engine is called as an agent calls it: mark
-//! over a run of instances with one string each.
+//! LIKE beside RE2 and the tuned engine on the same patterns and texts, over the whole text. The engine is called as an
+//! agent calls it: mark over a run of instances with one string each. RE2 has its pattern compiled before the clock in
+//! one column and inside it in the other, as the engine reads it in each call.
 
-use crate::clock::{compare, Call};
+use crate::clock::{compare, Contestant};
 use crate::re2::Pattern;
+use crate::score::{cells, Score};
 use reference::kind::{CLASS, INSTANCE, STRING};
 use reference::record::write;
+use tuned::Program;
 
 const TEXTS: usize = 64;
+const PEERS: [&str; 3] = ["LIKE: tuned, parsed before", "LIKE: RE2, compiled before", "LIKE: RE2"];
 
-pub fn run() {
+/// A pattern, what its fitting texts consist of, and what the others do.
+struct Row {
+    pattern: &'static str,
+    fitting: fn(usize) -> String,
+    other: &'static str,
+}
+
+fn cut(text: String, characters: usize) -> String {
+    text.chars().take(characters).collect()
+}
+
+fn rows() -> Vec<Row> {
+    let fan = |n: usize| cut(format!("FAN_{}", "12".repeat(n)), n);
+    vec![
+        Row { pattern: "FAN_.*", fitting: |n| cut("FAN_".repeat(n), n), other: "x-9" },
+        Row { pattern: "[A-Z]+_[0-9]+", fitting: fan, other: "x-9" },
+        Row { pattern: "(FAN|PUMP)_(0|1|2|3)*", fitting: fan, other: "x-9" },
+        Row { pattern: ".*a.*b.*c.*", fitting: |n| cut("xaybzc".repeat(n), n), other: "x-9" },
+        Row { pattern: "(a|b|ab)*c?", fitting: |n| cut("ab".repeat(n), n), other: "x-9" },
+        Row { pattern: ".*[é-ü].*", fitting: |n| cut("naïve façade ".repeat(n), n), other: "plain " },
+        Row { pattern: "(В|Е|Н|Т)*", fitting: |n| cut("ВЕНТ".repeat(n), n), other: "ВЕНТИЛ" },
+        Row { pattern: "[一-龥]+", fitting: |n| cut("風扇速度過高".repeat(n), n), other: "風扇 " },
+    ]
+}
+
+pub fn run(score: &mut Score) {
     println!("\nLIKE, {TEXTS} texts a run: nanoseconds for each text");
-    println!("{:26}{:>8}{:>12}{:>10}{:>10}{:>16}", "pattern", "length", "engine", "RE2", "ratio", "engine, a char.");
-    let patterns = ["FAN_.*", "[A-Z]+_[0-9]+", "(FAN|PUMP)_(0|1|2|3)*", ".*a.*b.*c.*", "(a|b|ab)*c?"];
-    for pattern in patterns {
+    print!("{:24}{:>8}{:>10}{:>12}{:>8}", "pattern", "length", "engine", "tuned", "ratio");
+    println!("{:>12}{:>8}{:>12}{:>8}", "RE2 before", "ratio", "RE2 inside", "ratio");
+    for row in rows() {
         for length in [10, 100, 1_000] {
-            compare_on(pattern, length);
+            compare_on(score, &row, length);
         }
     }
 }
 
-fn compare_on(pattern: &str, length: usize) {
-    let texts: Vec<String> = (0..TEXTS).map(|n| text(pattern, n, length)).collect();
+fn compare_on(score: &mut Score, row: &Row, length: usize) {
+    let pattern = row.pattern;
+    // Every second text fits as far as it goes.
+    let text =
+        |n: usize| if n.is_multiple_of(2) { (row.fitting)(length) } else { cut(row.other.repeat(length), length) };
+    let texts: Vec<String> = (0..TEXTS).map(text).collect();
     let table = [write(CLASS, b"T"), write(STRING, b"S")].concat();
     let run: Vec<u8> = texts.iter().flat_map(|t| write(INSTANCE, &write(STRING, t.as_bytes()))).collect();
     let query = format!("S LIKE '{pattern}'").into_bytes();
-    let compiled = Pattern::compile(pattern);
-    let mut marks = vec![0; TEXTS];
+    let (compiled, mut program) = (Pattern::compile(pattern), Program::new(&query, &table).unwrap());
+    let [mut marks, mut others] = [[0; TEXTS]; 2];
     fql::mark(&query, &table, &run, &mut marks).unwrap();
+    program.mark(&run, &mut others).unwrap();
+    assert_eq!(marks, others, "{pattern}");
     for (mark, text) in marks.iter().zip(&texts) {
         assert_eq!(*mark == 1, compiled.matches(text), "{pattern} on {text}");
     }
-    let engine: Call = Box::new(|| {
-        marks.fill(0);
-        fql::mark(&query, &table, &run, &mut marks).unwrap().included
-    });
-    let peer: Call = Box::new(|| texts.iter().filter(|t| compiled.matches(t)).count() as u64);
-    let times = compare(&mut [engine, peer]);
-    let each = [times[0] / TEXTS as f64, times[1] / TEXTS as f64];
-    let a_character = each[0] / length as f64;
-    println!("{pattern:26}{length:>8}{:>12.0}{:>10.0}{:>10.1}{a_character:>16.1}", each[0], each[1], each[0] / each[1]);
-}
-
-/// Every second text fits its pattern as far as it goes.
-fn text(pattern: &str, n: usize, length: usize) -> String {
-    let unit = match (pattern, n % 2) {
-        ("(a|b|ab)*c?", 0) => "ab",
-        (".*a.*b.*c.*", 0) => "xaybzc",
-        ("FAN_.*", 0) => "FAN_",
-        (_, 0) => return format!("FAN_{}", "12".repeat(length))[..length].into(),
-        _ => "x-9",
-    };
-    unit.repeat(length)[..length].into()
+    let count = |pattern: &Pattern| texts.iter().filter(|t| pattern.matches(t)).count() as u64;
+    let times = compare(&mut [
+        Contestant::new(|| fql::mark(&query, &table, &run, &mut marks).unwrap().included),
+        Contestant::new(|| program.mark(&run, &mut others).unwrap().included),
+        Contestant::new(|| count(&compiled)),
+        Contestant::new(|| count(&Pattern::compile(pattern))),
+    ]);
+    let each: Vec<f64> = times.iter().map(|time| time / TEXTS as f64).collect();
+    print!("{pattern:24}{length:>8}{:>10.0}", each[0]);
+    for (peer, &time) in PEERS.into_iter().zip(&each[1..]) {
+        print!("{}", cells(Some((time, score.add(peer, &format!("{pattern} on {length}"), each[0], time)))));
+    }
+    println!();
 }

@@ -1,12 +1,15 @@
-//! How much stack each operation uses: the stack below the caller is painted, and the lowest byte that changed is looked
-//! up after the call.
+//! How much stack each operation uses: the stack below the caller is painted, and the lowest byte that changed is
+//! looked up after the call.
 
 use crate::data::Setting;
+use crate::slow;
 
 const PAINTED: usize = 1 << 20;
 const PAINT: u8 = 0xA5;
 /// Left alone right below the caller, for the frame of painting itself.
 const MARGIN: usize = 512;
+
+type Used = [usize; 6];
 
 pub fn run() {
     let thread = std::thread::Builder::new().stack_size(4 * PAINTED).spawn(print).unwrap();
@@ -17,36 +20,68 @@ fn print() {
     println!("\nstack: bytes below the caller ({MARGIN} stands for as much or less)");
     print!("{:46}{:>8}{:>10}{:>8}{:>8}", "filter", "check", "evaluate", "mark", "watch");
     println!("{:>12}{:>10}", "fault text", "conjoin");
-    let setting = Setting::large(4);
-    let length = usize::from(u16::from_le_bytes([setting.run[0], setting.run[1]]));
-    let instance = &setting.run[4..4 + length];
-    let (mut marks, mut buffer) = (setting.marks(), [0; fql::LONGEST_QUERY]);
+    let setting = Setting::sample(122, 4);
+    let mut most = [0; 6];
     for (name, query) in filters() {
-        let query = query.as_bytes();
-        assert_eq!(fql::check(query, &setting.table), Ok(()));
-        let used = [
-            used(|| u64::from(fql::check(query, &setting.table).is_ok())),
-            used(|| fql::evaluate(query, &setting.table, instance).unwrap().steps),
-            used(|| fql::mark(query, &setting.table, &setting.run, &mut marks).unwrap().included),
-            used(|| fql::watch(query, &setting.table, &setting.run, 64, 32, &mut marks).unwrap().ones),
-            used(|| fql::fault_text(query, &setting.table, 11, 3).bytes().len() as u64),
-            used(|| fql::conjoin(query, query, &setting.table, &mut buffer).unwrap() as u64),
-        ];
-        print!("{name:46}{:>8}{:>10}{:>8}{:>8}", used[0], used[1], used[2], used[3]);
-        println!("{:>12}{:>10}", used[4], used[5]);
+        assert_eq!(fql::check(query.as_bytes(), &setting.table), Ok(()), "{name}");
+        let used = of_all(query.as_bytes(), &setting.table, setting.instance(), &setting.run);
+        print_row(name, used);
+        most = greatest(most, used);
     }
+    for input in slow::fast_to_evaluate() {
+        most = greatest(most, of_all(&input.query, &input.table, &input.instance, &input.run()));
+    }
+    print_row("most, over the slow inputs without LIKE as well", most);
 }
 
-/// The pattern's reader calls itself for each alternative, item and group, so these go deepest.
-fn filters() -> [(&'static str, String); 6] {
-    let groups = format!("Name LIKE '{}x{}'", "(".repeat(8), ")*".repeat(8));
+fn print_row(name: &str, used: Used) {
+    print!("{name:46}{:>8}{:>10}{:>8}{:>8}", used[0], used[1], used[2], used[3]);
+    println!("{:>12}{:>10}", used[4], used[5]);
+}
+
+fn greatest(a: Used, b: Used) -> Used {
+    std::array::from_fn(|n| a[n].max(b[n]))
+}
+
+/// Of check, evaluate, mark, watch, fault text and conjoin, whatever they answer.
+fn of_all(query: &[u8], table: &[u8], instance: &[u8], run: &[u8]) -> Used {
+    let (mut marks, mut buffer) = ([0; 4], [0; fql::LONGEST_QUERY]);
+    let fault_text = |number| used(|| fql::fault_text(query, table, number, 3).bytes().len() as u64);
     [
+        used(|| u64::from(fql::check(query, table).is_ok())),
+        used(|| u64::from(fql::evaluate(query, table, instance).is_ok())),
+        used(|| u64::from(fql::mark(query, table, run, &mut marks).is_ok())),
+        used(|| u64::from(fql::watch(query, table, run, 64, 32, &mut marks).is_ok())),
+        [2, 3, 10, 11, 12, 20, 21, 22, 23, 24, 25].map(fault_text).into_iter().max().unwrap(),
+        used(|| u64::from(fql::conjoin(query, query, table, &mut buffer).is_ok())),
+    ]
+}
+
+/// What goes deepest in each part of the engine: the readers of patterns, datetimes and literals, and the joins.
+fn filters() -> Vec<(&'static str, String)> {
+    let like = |pattern: String| format!("Name LIKE '{pattern}'");
+    let nested = |inner: &str| like(format!("{}{inner}{}", "(".repeat(8), ")*".repeat(8)));
+    let alternatives = like(format!("{}{}{}", "(x|".repeat(8), "|".repeat(200), ")".repeat(8)));
+    vec![
         ("comparisons, ANY, an array literal", "Temp > 0 AND ANY Dev = 14 OR Dev = {3,14}".into()),
+        ("64 groups", vec!["(Dev[1] = Dev[2])"; 64].join(" OR ")),
+        ("an array literal of 32 elements", format!("Dev = {{{}}}", ["0x000000000000000F"; 32].join(","))),
+        ("a real", "R > -123456789012345.e-22".into()),
+        ("a text with escapes", format!("Name = '{}'", "\\u01F600".repeat(100))),
         ("a datetime", "Since = '20051003112233.000000+000'".into()),
         ("a datetime with unknown digits", "Since = '200510********.******+000'".into()),
-        ("a pattern of 8 groups inside one another", groups),
-        ("a pattern of 60 symbols", format!("Name LIKE '{}'", "x".repeat(60))),
-        ("a pattern of 256 alternatives", format!("Name LIKE '{}'", "|".repeat(255))),
+        ("a datetime beside a datetime", "Since <= Since".into()),
+        ("a pattern of 8 groups inside one another", nested("x")),
+        ("8 groups inside one another around 60 symbols", nested(&"x".repeat(60))),
+        ("8 groups inside one another around 200 bars", nested(&"|".repeat(200))),
+        ("8 groups inside one another, alternatives", alternatives),
+        ("a pattern of 60 groups", like("(x)*".repeat(60))),
+        ("a pattern of 128 empty groups", like("()".repeat(128))),
+        ("a pattern of 60 symbols", like("x".repeat(60))),
+        ("a pattern of 60 sets", like("[^x]".repeat(60))),
+        ("a pattern of 84 ranges", like(format!("[{}]", "a-b".repeat(84)))),
+        ("a pattern of 256 alternatives", like("|".repeat(255))),
+        ("a pattern of 60 symbols and bars", like("x|".repeat(60))),
     ]
 }
 

@@ -1,6 +1,6 @@
 //! A watch beside mark, which finds the same plain marks: what the window adds, and that its length doesn't count.
 
-use crate::clock::{compare, Call};
+use crate::clock::{compare, Contestant};
 use crate::data::{filters, Setting};
 use crate::growth::{print_head, print_row};
 
@@ -22,16 +22,16 @@ fn assert_same(query: &[u8], setting: &Setting, [window, need]: [u64; 2]) {
 }
 
 /// A call of watch on marks of its own.
-fn call<'a>(query: &'a [u8], setting: &'a Setting, [window, need]: [u64; 2]) -> Call<'a> {
+fn call<'a>(query: &'a [u8], setting: &'a Setting, [window, need]: [u64; 2]) -> Contestant<'a> {
     let mut marks = setting.marks();
-    Box::new(move || {
+    Contestant::new(move || {
         marks.fill(0);
         fql::watch(query, &setting.table, &setting.run, window, need, &mut marks).unwrap().ones
     })
 }
 
 fn beside_mark(setting: &Setting) {
-    let count = setting.values.len();
+    let count = setting.instances;
     let filters = filters();
     for filter in &filters {
         assert_same(filter.fql.as_bytes(), setting, [WINDOW, NEED]);
@@ -41,7 +41,7 @@ fn beside_mark(setting: &Setting) {
     for filter in &filters {
         let query = filter.fql.as_bytes();
         let mut marks = setting.marks();
-        let mark: Call = Box::new(|| {
+        let mark = Contestant::new(|| {
             marks.fill(0);
             fql::mark(query, &setting.table, &setting.run, &mut marks).unwrap().included
         });
@@ -53,7 +53,7 @@ fn beside_mark(setting: &Setting) {
 
 /// All windows take turns, so that a slower moment of the machine is no window's.
 fn over_windows(setting: &Setting) {
-    let count = setting.values.len();
+    let count = setting.instances;
     let query = b"Temp > 0";
     let ranges = [1, 2, 4, 8, 16, 32, 64].map(|window: u64| [window, window.div_ceil(2)]);
     for range in ranges {
