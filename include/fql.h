@@ -9,9 +9,10 @@
    pointer and a length in bytes. A pointer may not be null, also where its length is 0, and neither marks nor buffer
    may overlap the other bytes of the call; these may overlap one another.
 
-   A call takes less than 16 KiB of stack, whatever it is given: measured were at most 14,479 bytes below its caller for
-   fql_conjoin, 11,167 for fql_watch, 11,111 for fql_mark, 10,879 for fql_evaluate, 9,695 for fql_check and 512 for
-   fql_fault_text. docs/PERFORMANCE.md has the time of the slowest inputs that are known.
+   A call takes less than 16 KiB of stack. Only the groups of a LIKE pattern, at most 8 inside one another, make it call
+   deeper. Measured were at most 14,479 bytes below the caller for fql_conjoin, 11,167 for fql_watch, 11,111 for fql_mark,
+   10,879 for fql_evaluate, 9,695 for fql_check and 512 for fql_fault_text. docs/PERFORMANCE.md has the time of the slowest
+   inputs that are known.
 
    Link with libfql_export.a, which `rt staticlib fql_export` writes into target/staticlib. */
 #ifndef FQL_H

@@ -1,6 +1,6 @@
 -- The memory of the symbols that stand for a character: it starts with none, and stays right as one is found in it or put there. Assumes nothing.
 use mathlib.Core.Path.{_≡_, refl, ap, sym as inv, _∙_}
-use mathlib.Core.Bool.{Bool, true, false, not, _&&_, _||_}
+use mathlib.Core.Bool.{Bool, true, false, not, _&&_, _||_, or-false}
 use mathlib.Core.List.{List}
 use Prim.Native.Nat.{ℕ, zero, suc, _+_, _<_}
 use native.Mathlib.Omega.{arith}
@@ -25,10 +25,6 @@ zero-at (suc n) (suc k) = zero-at n k
 pub remembers-none : (p : List ℕ) → Remembers p (replicate 256 0)
 remembers-none p = record { right = λ k l z. absurd (z (zero-at 256 (128 + k))); all = length-replicate {A = ℕ} 256 0 }
 
-or-f : (b : Bool) → (b || false) ≡ b
-or-f true = refl
-or-f false = refl
-
 module _ (p : List ℕ) (c k : ℕ) {memory : List ℕ} (right : Remembers p memory) (place : k < 128) where
   pub hit-found : (eqb (getD memory k 0) c && not (eqb (getD memory (128 + k) 0) 0)) ≡ true → Hits p c (getD memory (128 + k) 0)
   hit-found test ps l i b =
@@ -42,7 +38,7 @@ module _ (p : List ℕ) (c k : ℕ) {memory : List ℕ} (right : Remembers p mem
         ap (λ (n : ℕ). bit n i) e
         ∙ bit-or hit 0x8000000000000000 i
         ∙ ap (λ (t : Bool). bit hit i || t) (bit-other 63 i (λ d. omega arith))
-        ∙ or-f (bit hit i)
+        ∙ or-false (bit hit i)
         ∙ found ps l i b
 
     abbrev written : List ℕ

@@ -1,6 +1,6 @@
 -- A step of the automaton is a shift of the live symbols of a run. Assumes nothing.
 use mathlib.Core.Path.{_≡_, refl, ap, ap₂, sym as inv, _∙_}
-use mathlib.Core.Bool.{Bool, true, false, _&&_, _||_}
+use mathlib.Core.Bool.{Bool, true, false, _&&_, _||_, and-true, or-false}
 use Prim.Native.Nat.{ℕ, zero, suc, _≤_, _<_, _+_, _-_, _^_}
 use native.Mathlib.Omega.{arith}
 use native.Mathlib.Decide.{ℕ-discrete}
@@ -36,39 +36,31 @@ num-le (plus a) k m h = num-le a k m h
 
 -- ---- Booleans
 
-or-f : (b : Bool) → (b || false) ≡ b
-or-f true = refl
-or-f false = refl
-
 or-t : (b : Bool) → (b || true) ≡ true
 or-t true = refl
 or-t false = refl
 
-and-t : (b : Bool) → (b && true) ≡ b
-and-t true = refl
-and-t false = refl
-
 pub and-swap : (a b : Bool) → (a && b) ≡ (b && a)
-and-swap true b = inv (and-t b)
+and-swap true b = inv (and-true b)
 and-swap false b = inv (and-false b)
 
 in-left : (xa la b fa na : Bool) → (xa || (b && fa)) ≡ (((xa || false) || (la && false)) || (b && (fa || (na && false))))
-in-left xa la b fa na = simp (and-false, or-f)
+in-left xa la b fa na = simp (and-false, or-false)
 
 in-right : (xr la fr b na : Bool) → (xr || (((b && na) || la) && fr)) ≡ (((false || xr) || (la && fr)) || (b && (false || (na && fr))))
 in-right true la fr b na = refl
 in-right false la false b na = simp and-false
 in-right false true true b na = simp or-t
-in-right false false true b na = simp (or-f, and-t)
+in-right false false true b na = simp (or-false, and-true)
 
 alt-left : (xa b fa : Bool) → (xa || (b && fa)) ≡ ((xa || false) || (b && (fa || false)))
-alt-left xa b fa = simp or-f
+alt-left xa b fa = simp or-false
 
 once-more : (x l f b : Bool) → (x || ((b || l) && f)) ≡ ((x || (l && f)) || (b && f))
 once-more true l f b = refl
 once-more false l false b = simp and-false
 once-more false l true true = simp or-t
-once-more false l true false = simp (and-t, or-f)
+once-more false l true false = simp (and-true, or-false)
 
 -- ---- tests of the numbers below another
 
@@ -89,7 +81,7 @@ any-or zero f g = refl
 any-or (suc n) f g = ap (λ (b : Bool). (f n || g n) || b) (any-or n f g) ∙ swap-or (f n) (g n) (anyBelow n f) (anyBelow n g)
 
 or-and : (x y b : Bool) → ((x && b) || (y && b)) ≡ ((x || y) && b)
-or-and x y true = rw (and-t x, and-t y, and-t (x || y))
+or-and x y true = rw (and-true x, and-true y, and-true (x || y))
 or-and x y false = rw (and-false x, and-false y, and-false (x || y))
 
 any-and : (n : ℕ) (f : ℕ → Bool) (b : Bool) → anyBelow n (λ j. f j && b) ≡ (anyBelow n f && b)
@@ -105,7 +97,7 @@ any-one (suc n) k f h e = go (ℕ-discrete k n) (λ l. any-one n k f l e)
     go : Dec (k ≡ n) → (k < n → anyBelow n f ≡ f k) → (f n || anyBelow n f) ≡ f k
     go (yes q) one =
         ap₂ _||_ (ap f (inv q)) (any-same n f (λ j. false) (λ j l. e j (λ d. omega (arith, q, d))) ∙ any-none n (λ j. false) (λ j. refl))
-        ∙ or-f (f k)
+        ∙ or-false (f k)
     go (no q) one = ap₂ _||_ (e n (λ d. q (inv d))) (one (omega arith))
 
 pub any-true : (n k : ℕ) (f : ℕ → Bool) → k < n → f k ≡ true → anyBelow n f ≡ true
@@ -257,14 +249,14 @@ module _ (S c : ℕ) (h : ℕ → Bool) where
     where
       turn : (s x b y : Bool) → (s && (x || (b && y))) ≡ (((s && y) && b) || (s && x))
       turn false x b y = refl
-      turn true x true y = rw (and-t y) (swap x y)
+      turn true x true y = rw (and-true y) (swap x y)
         where
           swap : (x y : Bool) → (x || y) ≡ (y || x)
           swap true true = refl
           swap true false = refl
           swap false true = refl
           swap false false = refl
-      turn true x false y = rw (and-false y) (or-f x)
+      turn true x false y = rw (and-false y) (or-false x)
 
   meets-or : (x y : ℕ) → meets S (bitOr x y) ≡ (meets S x || meets S y)
   meets-or x y =
@@ -278,7 +270,7 @@ module _ (S c : ℕ) (h : ℕ → Bool) where
   final-ok (sym n p) t =
       inv
       (any-one 64 n (λ j. bit S j && bit (2 ^ n) j) (omega (arith, t .0)) (λ j d. ap (λ (b : Bool). bit S j && b) (bit-other n j d) ∙ and-false (bit S j))
-      ∙ rw (bit-same n) (and-t (bit S n)))
+      ∙ rw (bit-same n) (and-true (bit S n)))
   final-ok (seq a b) t =
       ap₂ _||_ (ap₂ _&&_ (final-ok a (t .0)) (nullable-ok b (bit S))) (final-ok b (t .1))
       ∙ inv (meets-join (automatonOf b .sets .last) (automatonOf a .sets .last) (automatonOf b .sets .nullable))
@@ -293,7 +285,7 @@ module _ (S c : ℕ) (h : ℕ → Bool) where
   step-ok (sym j p) k m n t b =
       ap (λ (x : Bool). sym x p)
       (and-swap b (standsFor p c)
-      ∙ inv (ap₂ _&&_ (t .1) (ap₂ (λ (x y : Bool). x || (b && y)) (leads-none S j (λ i. 0) (λ i. bit-zero j)) (bit-same j) ∙ and-t b)))
+      ∙ inv (ap₂ _&&_ (t .1) (ap₂ (λ (x y : Bool). x || (b && y)) (leads-none S j (λ i. 0) (λ i. bit-zero j)) (bit-same j) ∙ and-true b)))
   step-ok (seq a r) k m n t b =
       let A = automatonOf a in
       let R = automatonOf r in

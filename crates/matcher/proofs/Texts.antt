@@ -2,7 +2,7 @@
 use mathlib.Core.Path.{_≡_, refl, ap, ap₂, subst, sym as inv, _∙_}
 use mathlib.Core.List.{List, [], _∷_}
 use mathlib.Core.Option.{Option, none, some}
-use mathlib.Core.Bool.{Bool, true, false, not, _&&_, _||_, false≢true}
+use mathlib.Core.Bool.{Bool, true, false, not, _&&_, _||_, false≢true, or-false}
 use Prim.Native.Nat.{ℕ, _≤_, _<_, _+_}
 use native.Mathlib.Omega.{arith}
 use lib.ListN.{length, getD, replicate}
@@ -100,10 +100,6 @@ module _ (p : List ℕ) (whole : Fragment) (links : List ℕ) (tables : Linked (
       any-same 64 (λ j. bit S j && bit (getD links j 0) i) (λ j. bit S j && bit (automatonOf (tables .regex) .next j) i)
       (λ j l. ap (λ (n : ℕ). bit S j && bit n i) (tables .next j l))
 
-  or-f : (b : Bool) → (b || false) ≡ b
-  or-f true = refl
-  or-f false = refl
-
   ready-start : {st : Live} → st ≡ initial (whole .first) → Ready (tables .regex) st
   ready-start {st} e = subst (λ (x : Live). Ready (tables .regex) x) (inv e) λ i.
       ap (λ (f : Fragment). bit (f .first) i) (tables .sets)
@@ -114,7 +110,7 @@ module _ (p : List ℕ) (whole : Fragment) (links : List ℕ) (tables : Linked (
   ready-begun st b g i =
       g i
       ∙ same-leads (st .set) i
-      ∙ inv (or-f (leads (automatonOf (tables .regex) .next) (st .set) i))
+      ∙ inv (or-false (leads (automatonOf (tables .regex) .next) (st .set) i))
       ∙ ap (λ (x : Bool). leads (automatonOf (tables .regex) .next) (st .set) i || (not x && bit (automatonOf (tables .regex) .sets .first) i)) (inv b)
 
   stands : (c hit : ℕ) → Hits p c hit → Stands (tables .regex) (bit hit) c

@@ -1,7 +1,7 @@
 -- Automata one after another and beside one another: how they are bracketed doesn't matter, and what matches the empty text alone, or nothing, adds
 -- nothing. Links, each addition after the other. Assumes nothing.
 use mathlib.Core.Path.{_≡_, refl, ap, ap₂, sym as inv, _∙_}
-use mathlib.Core.Bool.{Bool, true, false, _&&_, _||_}
+use mathlib.Core.Bool.{Bool, true, false, _&&_, _||_, and-true, and-assoc, or-assoc as or-of-or}
 use mathlib.Core.List.{List}
 use Prim.Native.Nat.{ℕ, _<_}
 use lib.Bits.{bitOr, or-zero-l, or-zero-r}
@@ -24,18 +24,6 @@ kept-none false = refl
 
 pub bit-join : (x y i : ℕ) (b : Bool) → bit (bitOr x (keptIf b y)) i ≡ (bit x i || (b && bit y i))
 bit-join x y i b = bit-or x (keptIf b y) i ∙ ap (λ (z : Bool). bit x i || z) (bit-kept b y i)
-
-and-t : (b : Bool) → (b && true) ≡ b
-and-t true = refl
-and-t false = refl
-
-and-assoc : (x y z : Bool) → ((x && y) && z) ≡ (x && (y && z))
-and-assoc true y z = refl
-and-assoc false y z = refl
-
-or-assoc' : (x y z : Bool) → ((x || y) || z) ≡ (x || (y || z))
-or-assoc' true y z = refl
-or-assoc' false y z = refl
 
 first-assoc : (m n : Bool) (x y z : ℕ) → bitOr (bitOr x (keptIf m y)) (keptIf (m && n) z) ≡ bitOr x (keptIf m (bitOr y (keptIf n z)))
 first-assoc true true x y z = or-assoc x y z
@@ -120,7 +108,7 @@ sequence-left a = λ i. record {
 pub sequence-right : (a : Automaton) → inSequence a emptyText ≡ a
 sequence-right a = λ i. record {
   sets = record {
-    nullable = and-t (a .sets .nullable) i;
+    nullable = and-true (a .sets .nullable) i;
     first = (ap (bitOr (a .sets .first)) (kept-none (a .sets .nullable)) ∙ or-zero-r (a .sets .first)) i;
     last = or-zero-l (a .sets .last) i;
   };
@@ -130,7 +118,7 @@ sequence-right a = λ i. record {
 pub alternatives-assoc : (a b c : Automaton) → inAlternatives (inAlternatives a b) c ≡ inAlternatives a (inAlternatives b c)
 alternatives-assoc a b c = λ i. record {
   sets = record {
-    nullable = or-assoc' (a .sets .nullable) (b .sets .nullable) (c .sets .nullable) i;
+    nullable = or-of-or (a .sets .nullable) (b .sets .nullable) (c .sets .nullable) i;
     first = or-assoc (a .sets .first) (b .sets .first) (c .sets .first) i;
     last = or-assoc (a .sets .last) (b .sets .last) (c .sets .last) i;
   };

@@ -1,6 +1,6 @@
 -- One law for each way out of the functions over sets of symbols and links. Assumes nothing.
 use mathlib.Core.Path.{_≡_, refl, ap, ap₂, subst, sym as inv, _∙_}
-use mathlib.Core.Bool.{Bool, true, false, not, _&&_, _||_}
+use mathlib.Core.Bool.{Bool, true, false, _&&_, _||_, or-assoc as or-of-or}
 use mathlib.Core.List.{List}
 use Prim.Native.Nat.{ℕ, zero, suc, _≤_, _<_, _+_, _*_, _/_, _%_, _^_}
 use native.Mathlib.Omega.{arith}
@@ -113,10 +113,6 @@ module _ (last first : ℕ) (before : List ℕ) where
 
 -- ---- the symbols that may follow one of a set
 
-swap : (x y z : Bool) → ((x || y) || z) ≡ (x || (y || z))
-swap true y z = refl
-swap false y z = refl
-
 turn : (x y z : Bool) → (x || (y || z)) ≡ (y || (x || z))
 turn true true z = refl
 turn true false z = refl
@@ -154,7 +150,7 @@ module _ (links : List ℕ) (S : ℕ) where
     gathering-next {k} {rest} member w = record {
       leading = λ i.
           ap (λ (b : Bool). b || leads (λ j. getD links j 0) rest i) (bit-or found (getD links k 0) i)
-          ∙ swap (bit found i) (bit (getD links k 0) i) (leads (λ j. getD links j 0) rest i)
+          ∙ or-of-or (bit found i) (bit (getD links k 0) i) (leads (λ j. getD links j 0) rest i)
           ∙ ap (λ (b : Bool). bit found i || b)
           (ap (λ (b : Bool). (b && bit (getD links k 0) i) || leads (λ j. getD links j 0) rest i) (inv (member .1))
           ∙ inv
