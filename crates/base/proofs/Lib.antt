@@ -2,6 +2,7 @@ pub mod Walk
 pub mod Lists
 pub mod Says
 pub mod Tabulate
+pub mod Arms
 pub mod LittleEndian
 pub mod ByteLists
 pub mod Digits

@@ -38,23 +38,6 @@ of-31-days leap m h l n = sym (go (daysInMonth leap m) (each leap m h l))
         eqb→eq days 31
         (rw (ne-eqb m 2 (n .0 .0 .0 .0 .1), ne-eqb m 4 (n .0 .0 .0 .1), ne-eqb m 6 (n .0 .0 .1), ne-eqb m 9 (n .0 .1), ne-eqb m 11 (n .1)) at t)
 
--- the twelfth month, from there being no other
-abbrev pub NoEarlier : ℕ → Type 0
-NoEarlier m = ((((((((((Unit × (m ≡ 1 → ⊥)) × (m ≡ 2 → ⊥)) × (m ≡ 3 → ⊥)) × (m ≡ 4 → ⊥)) × (m ≡ 5 → ⊥)) × (m ≡ 6 → ⊥)) × (m ≡ 7 → ⊥)) × (m ≡ 8 → ⊥)) × (m ≡ 9 → ⊥)) × (m ≡ 10 → ⊥)) × (m ≡ 11 → ⊥)
-
-twelve : ℕ → Bool
-twelve m = eqb m 1 || (eqb m 2 || (eqb m 3 || (eqb m 4 || (eqb m 5 || (eqb m 6 || (eqb m 7 || (eqb m 8 || (eqb m 9 || (eqb m 10 || (eqb m 11 || (eqb m 12)))))))))))
-
-pub is-december : (m : ℕ) → 1 ≤ m → m ≤ 12 → NoEarlier m → m ≡ 12
-unfolding twelve
-is-december m h l n =
-    eqb→eq m 12
-    (rw (ne-eqb m 1 (n .0 .0 .0 .0 .0 .0 .0 .0 .0 .0 .1), ne-eqb m 2 (n .0 .0 .0 .0 .0 .0 .0 .0 .0 .1), ne-eqb m 3 (n .0 .0 .0 .0 .0 .0 .0 .0 .1), ne-eqb m 4 (n .0 .0 .0 .0 .0 .0 .0 .1), ne-eqb m 5 (n .0 .0 .0 .0 .0 .0 .1), ne-eqb m 6 (n .0 .0 .0 .0 .0 .1), ne-eqb m 7 (n .0 .0 .0 .0 .1), ne-eqb m 8 (n .0 .0 .0 .1), ne-eqb m 9 (n .0 .0 .1), ne-eqb m 10 (n .0 .1), ne-eqb m 11 (n .1)) at (one m h l))
-  where
-    one : (m : ℕ) → 1 ≤ m → m ≤ 12 → T (twelve m)
-    one zero h l = absurd (omega arith)
-    one (suc m) h l = all-at (λ (j : ℕ). twelve (suc j)) 12 tt m (omega arith)
-
 -- after February a leap year is a day ahead
 ahead : (m : ℕ) → m < 13 → daysBeforeMonth true m ≡ daysBeforeMonth false m + pick (ltb 2 m) 1 0
 unfolding daysBeforeMonth

@@ -1,7 +1,7 @@
 use mathlib.Core.Path.{refl}
 use native.Mathlib.Omega.{arith}
 use Rattle.datetime.specs.Calendar.{daysBeforeMonth}
-use Rattle.datetime.proofs.Months as law
+use Rattle.base.proofs.Arms.{last-arm}
 use Rattle.datetime.proofs.calendar.days_before_month_of_common_year.Statement.{statement}
 use Rattle.datetime.proofs.calendar.days_before_month_of_common_year.Tie as tie
 
@@ -51,7 +51,7 @@ returns-11 c = (rw (c .match .keys11) refl, omega arith)
 
 returns-12 : tie.Need-returns-12
 unfolding daysBeforeMonth
-returns-12 c = (rw (law.is-december (c .before .args .m) (c .before .pre .0) (c .before .pre .1) (c .match .rest)) refl, omega arith)
+returns-12 c = (rw (last-arm 1 11 (c .before .args .m) (c .before .pre .0) (c .before .pre .1) (c .match .rest)) refl, omega arith)
 
 pub days-before-month-of-common-year-spec : {M : Type 1} → statement M
 days-before-month-of-common-year-spec =

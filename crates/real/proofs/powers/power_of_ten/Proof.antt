@@ -1,19 +1,126 @@
-use lib.Ieee.{nan, ofBits, ofInt}
-use Rattle.base.proofs.Tabulate.{tab-at}
-use Rattle.real.specs.Real.{powerOfTen}
-use borrow.Author.Needs.{needs}
+use mathlib.Core.Path.{refl}
+use native.Mathlib.Omega.{arith}
+use lib.Ieee.{ofBits, ofInt}
+use Rattle.base.proofs.Arms.{last-arm}
 use Rattle.real.proofs.powers.power_of_ten.Statement.{statement}
 use Rattle.real.proofs.powers.power_of_ten.Tie as tie
 
-mul-result : tie.Need-mul-result
-mul-result c = search needs
-
-array-read-result : tie.Need-array-read-result
-array-read-result c = search needs
-
 returns : tie.Need-returns
 unfolding ofBits ofInt
-returns c = tab-at powerOfTen 23 (c .args .k) nan (search needs)
+returns c = rw (c .match .keys1) refl
+
+returns-2 : tie.Need-returns-2
+unfolding ofBits ofInt
+returns-2 c = rw (c .match .keys2) refl
+
+returns-3 : tie.Need-returns-3
+unfolding ofBits ofInt
+returns-3 c = rw (c .match .keys3) refl
+
+returns-4 : tie.Need-returns-4
+unfolding ofBits ofInt
+returns-4 c = rw (c .match .keys4) refl
+
+returns-5 : tie.Need-returns-5
+unfolding ofBits ofInt
+returns-5 c = rw (c .match .keys5) refl
+
+returns-6 : tie.Need-returns-6
+unfolding ofBits ofInt
+returns-6 c = rw (c .match .keys6) refl
+
+returns-7 : tie.Need-returns-7
+unfolding ofBits ofInt
+returns-7 c = rw (c .match .keys7) refl
+
+returns-8 : tie.Need-returns-8
+unfolding ofBits ofInt
+returns-8 c = rw (c .match .keys8) refl
+
+returns-9 : tie.Need-returns-9
+unfolding ofBits ofInt
+returns-9 c = rw (c .match .keys9) refl
+
+returns-10 : tie.Need-returns-10
+unfolding ofBits ofInt
+returns-10 c = rw (c .match .keys10) refl
+
+returns-11 : tie.Need-returns-11
+unfolding ofBits ofInt
+returns-11 c = rw (c .match .keys11) refl
+
+returns-12 : tie.Need-returns-12
+unfolding ofBits ofInt
+returns-12 c = rw (c .match .keys12) refl
+
+returns-13 : tie.Need-returns-13
+unfolding ofBits ofInt
+returns-13 c = rw (c .match .keys13) refl
+
+returns-14 : tie.Need-returns-14
+unfolding ofBits ofInt
+returns-14 c = rw (c .match .keys14) refl
+
+returns-15 : tie.Need-returns-15
+unfolding ofBits ofInt
+returns-15 c = rw (c .match .keys15) refl
+
+returns-16 : tie.Need-returns-16
+unfolding ofBits ofInt
+returns-16 c = rw (c .match .keys16) refl
+
+returns-17 : tie.Need-returns-17
+unfolding ofBits ofInt
+returns-17 c = rw (c .match .keys17) refl
+
+returns-18 : tie.Need-returns-18
+unfolding ofBits ofInt
+returns-18 c = rw (c .match .keys18) refl
+
+returns-19 : tie.Need-returns-19
+unfolding ofBits ofInt
+returns-19 c = rw (c .match .keys19) refl
+
+returns-20 : tie.Need-returns-20
+unfolding ofBits ofInt
+returns-20 c = rw (c .match .keys20) refl
+
+returns-21 : tie.Need-returns-21
+unfolding ofBits ofInt
+returns-21 c = rw (c .match .keys21) refl
+
+returns-22 : tie.Need-returns-22
+unfolding ofBits ofInt
+returns-22 c = rw (c .match .keys22) refl
+
+returns-23 : tie.Need-returns-23
+unfolding ofBits ofInt
+returns-23 c = rw (last-arm 0 22 (c .before .args .k) (omega arith) (omega (arith, c .before .pre)) (c .match .rest)) refl
 
 pub power-of-ten-spec : {M : Type 1} → statement M
-power-of-ten-spec = tie.close (tie.spec mul-result array-read-result returns)
+power-of-ten-spec =
+    tie.close
+    (tie.spec
+    returns
+    returns-2
+    returns-3
+    returns-4
+    returns-5
+    returns-6
+    returns-7
+    returns-8
+    returns-9
+    returns-10
+    returns-11
+    returns-12
+    returns-13
+    returns-14
+    returns-15
+    returns-16
+    returns-17
+    returns-18
+    returns-19
+    returns-20
+    returns-21
+    returns-22
+    returns-23)
