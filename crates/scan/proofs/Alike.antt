@@ -53,6 +53,19 @@ pub digit-stop : (base : ℕ) → base ≤ 16 → NoStop (inClass (Digit base))
 unfolding inClass digitOf within
 digit-stop base h = let z = le-ltb 16 base h in at-stops (λ (x : ℕ). inClass (Digit base) x ≡ false) z z z z z z
 
+-- parts of two texts that have the same bytes
+pub part-same : (q : List ℕ) (i : ℕ) (r : List ℕ) (j n : ℕ) → i + n ≤ length q → j + n ≤ length r → ((m : ℕ) → m < n → byteAt q (i + m) ≡ byteAt r (j + m)) → part q i n ≡ part r j n
+part-same q i r j n h k same = ext-getD 0 (part q i n) (part r j n) (len q i h ∙ sym (len r j k)) (λ m p. each m (rw (len q i h) at p))
+  where
+    len : (s : List ℕ) (x : ℕ) → x + n ≤ length s → length (part s x n) ≡ n
+    len s x h = length-take-le n (drop x s) (rw (length-drop x s) (omega arith))
+
+    byte : (s : List ℕ) (x m : ℕ) → m < n → getD (part s x n) m 0 ≡ byteAt s (x + m)
+    byte s x m p = rw (getD-take, getD-drop)
+
+    each : (m : ℕ) → m < n → getD (part q i n) m 0 ≡ getD (part r j n) m 0
+    each m p = byte q i m p ∙ same m p ∙ sym (byte r j m p)
+
 pub record Alike (q r : List ℕ) (a b k l : ℕ) : Type 0 where
   pub starts : a ≤ k
   pub ends : k + b ≡ l + a
@@ -167,17 +180,7 @@ module _ {q r : List ℕ} {a b k l : ℕ} (A : Alike q r a b k l) where
   -- parts before the stop
   pub part-alike : (i j n : ℕ) → a ≤ i → i + n ≤ k → i + b ≡ j + a → part q i n ≡ part r j n
   part-alike i j n h w e =
-      ext-getD 0 (part q i n) (part r j n) (len q i (omega (arith, A .first-within)) ∙ sym (len r j (omega (arith, A .ends, A .starts, A .second-within))))
-      (λ m p. each m (rw (len q i (omega (arith, A .first-within))) at p))
-    where
-      len : (s : List ℕ) (x : ℕ) → x + n ≤ length s → length (part s x n) ≡ n
-      len s x h = length-take-le n (drop x s) (rw (length-drop x s) (omega arith))
-
-      each : (m : ℕ) → m < n → getD (part q i n) m 0 ≡ getD (part r j n) m 0
-      each m p = byte q i m p ∙ A .same (i + m) (j + m) (omega arith) (omega arith) (omega arith) ∙ sym (byte r j m p)
-        where
-          byte : (s : List ℕ) (x m : ℕ) → m < n → getD (part s x n) m 0 ≡ byteAt s (x + m)
-          byte s x m p = rw (getD-take, getD-drop)
+      part-same q i r j n (omega (arith, A .first-within)) (omega (arith, A .ends, A .starts, A .second-within)) (λ m p. A .same (i + m) (j + m) (omega arith) (omega arith) (omega arith))
 
 -- texts that share a byte which is a stop, and all before it
 pub up-to-stop : (q r : List ℕ) (k : ℕ) → k < length q → k < length r → ((i : ℕ) → i ≤ k → byteAt q i ≡ byteAt r i) → stop (byteAt q k) ≡ true → Alike q r 0 0 k k

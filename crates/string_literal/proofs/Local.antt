@@ -1,22 +1,22 @@
 -- A string literal that ends before the stop of two texts that are alike is one in both, of the same characters.
-use Prim.Native.Nat.{ℕ, zero, suc, _+_, _-_, _≤_, _<_}
+use Prim.Native.Nat.{ℕ, _+_, _-_, _≤_, _<_}
 use mathlib.Core.Path.{_≡_, refl, sym, ap, _∙_}
-use mathlib.Core.List.{List, [], _∷_}
-use mathlib.Core.Bool.{Bool, true, false, _&&_}
+use mathlib.Core.List.{List, _∷_}
+use mathlib.Core.Bool.{Bool, true, false}
 use native.Mathlib.Omega.{arith}
-use lib.ListN.{length, take, drop}
-use lib.Dec.{ltb, leb, eqb}
-use borrow.Author.Tests.{ltb-false, leb-true, eqb-false}
+use lib.ListN.{length}
+use lib.Dec.{ltb, eqb}
+use borrow.Author.Tests.{ltb-false, eqb-false}
 use Rattle.base.specs.Pick.{pick}
-use Rattle.base.specs.Part.{part, byteAt}
+use Rattle.base.specs.Part.{byteAt}
 use Rattle.base.specs.Digit.{valueOf}
-use Rattle.base.proofs.Says.{and-both}
 use Rattle.scan.specs.Class.{run}
 use Rattle.scan.specs.declared.Class.the-variants.{Digit}
 use Rattle.scan.proofs.Runs.{run-from}
 use Rattle.scan.proofs.Alike.{Alike, digits-within, digits-alike, value-alike, part-alike}
-use Rattle.unicode.specs.WellFormed.{Range, table, fits, sequenceIn, sequenceAt}
-use Rattle.unicode.specs.Scalar.{scalarOf, scalarAt, isScalarValue}
+use Rattle.unicode.specs.WellFormed.{sequenceAt}
+use Rattle.unicode.specs.Scalar.{scalarAt, isScalarValue}
+use Rattle.unicode.proofs.SameSequence.{same-sequence, same-scalar}
 use Rattle.string_literal.specs.declared.InString.{InString}
 use Rattle.string_literal.specs.declared.InString.the-variants.{Character, Close, Bad}
 use Rattle.string_literal.specs.Char.{unicodeChar, rawAt, plainEscape, hexRun, unicodeEscape, escapeAt, charAt}
@@ -25,56 +25,6 @@ use Rattle.string_literal.specs.Abnf.{OneOf, Fits, one, single-quote}
 use Rattle.string_literal.proofs.Bounds.{text-character, text-close}
 use Rattle.string_literal.proofs.Fit.{char-fits, is-close}
 use Rattle.string_literal.proofs.Induction.{text-through}
-
--- a row looks at no more bytes than it has ranges
-fits-same : (row : List Range) (n : ℕ) (s t : List ℕ) → take n s ≡ take n t → length row ≤ n → fits row s ≡ fits row t
-unfolding fits
-fits-same [] n s t e h = refl
-fits-same (x ∷ row) zero s t e h = absurd (omega arith)
-fits-same (x ∷ row) (suc n) [] [] e h = refl
-fits-same (x ∷ row) (suc n) [] (c ∷ t) e h = let z : _≡_ {A = ℕ} 0 1 = cc in absurd (omega arith)
-fits-same (x ∷ row) (suc n) (b ∷ s) [] e h = let z : _≡_ {A = ℕ} 0 1 = cc in absurd (omega arith)
-fits-same (x ∷ row) (suc n) (b ∷ s) (c ∷ t) e h =
-    let p : b ≡ c = cc in
-    let r : take n s ≡ take n t = cc in
-    rw (p, fits-same row n s t r (omega arith))
-
--- the rows stand by length
-abbrev longer-rows : ℕ → List (List Range) → Bool
-longer-rows n [] = true
-longer-rows n (row ∷ rows) = leb n (length row) && longer-rows n rows
-
-at-least : (n : ℕ) (rows : List (List Range)) → longer-rows n rows ≡ true → (s : List ℕ) → (sequenceIn rows s ≡ 0 → ⊥) → n ≤ sequenceIn rows s
-unfolding sequenceIn
-at-least n [] h s z = absurd (z refl)
-at-least n (row ∷ rows) h s z =
-    let p = and-both (leb n (length row)) (longer-rows n rows) h in
-    go (fits row s) (leb-true n (length row) (p .0)) z (at-least n rows (p .1) s)
-  where
-    go : (t : Bool) → n ≤ length row → (pick t (length row) (sequenceIn rows s) ≡ 0 → ⊥) → ((sequenceIn rows s ≡ 0 → ⊥) → n ≤ sequenceIn rows s)
-        → n ≤ pick t (length row) (sequenceIn rows s)
-    go true l z f = l
-    go false l z f = f z
-
-data Rising : List (List Range) → Type 0 where
-  no-rows : Rising []
-  a-row : {row : List Range} {rows : List (List Range)} → longer-rows (length row) rows ≡ true → Rising rows → Rising (row ∷ rows)
-
-rising : Rising table
-rising = a-row refl (a-row refl (a-row refl (a-row refl (a-row refl (a-row refl (a-row refl (a-row refl (a-row refl no-rows))))))))
-
-same-sequence : (rows : List (List Range)) → Rising rows → (n : ℕ) (s t : List ℕ) → take n s ≡ take n t → (sequenceIn rows s ≡ 0 → ⊥) → sequenceIn rows s ≤ n
-    → sequenceIn rows t ≡ sequenceIn rows s
-unfolding sequenceIn
-same-sequence [] no-rows n s t e z h = refl
-same-sequence (row ∷ rows) (a-row l r) n s t e z h = go (fits row s) refl z h (same-sequence rows r n s t e) (at-least (length row) rows l s)
-  where
-    go : (u : Bool) → fits row s ≡ u → (pick u (length row) (sequenceIn rows s) ≡ 0 → ⊥) → pick u (length row) (sequenceIn rows s) ≤ n
-        → ((sequenceIn rows s ≡ 0 → ⊥) → sequenceIn rows s ≤ n → sequenceIn rows t ≡ sequenceIn rows s)
-        → ((sequenceIn rows s ≡ 0 → ⊥) → length row ≤ sequenceIn rows s)
-        → pick (fits row t) (length row) (sequenceIn rows t) ≡ pick u (length row) (sequenceIn rows s)
-    go true f z h k m = rw (← fits-same row n s t e h, f)
-    go false f z h k m = let w = m z in rw (← fits-same row n s t e (omega arith), f) (k z h)
 
 -- the same character, as far on from b as from a
 abbrev SameChar : (a b : ℕ) → InString → InString → Type 0
@@ -108,13 +58,10 @@ ends-there none spoiled e h = absurd h
 
 module _ {q r : List ℕ} {a b k l : ℕ} (A : Alike q r a b k l) where
   pub sequence-alike : (i j : ℕ) → a ≤ i → i + b ≡ j + a → (sequenceAt q i ≡ 0 → ⊥) → i + sequenceAt q i ≤ k → sequenceAt r j ≡ sequenceAt q i
-  unfolding sequenceAt
-  sequence-alike i j s x z w = same-sequence table rising (sequenceAt q i) (drop i q) (drop j r) (part-alike A i j (sequenceAt q i) s w x) z (omega arith)
+  sequence-alike i j s x z w = same-sequence q i r j (part-alike A i j (sequenceAt q i) s w x) z
 
   scalar-alike : (i j : ℕ) → a ≤ i → i + b ≡ j + a → (sequenceAt q i ≡ 0 → ⊥) → i + sequenceAt q i ≤ k → scalarAt r j ≡ scalarAt q i
-  unfolding scalarAt
-  scalar-alike i j s x z w =
-      ap (λ (n : ℕ). scalarOf (part r j n)) (sequence-alike i j s x z w) ∙ ap scalarOf (sym (part-alike A i j (sequenceAt q i) s w x))
+  scalar-alike i j s x z w = same-scalar q i r j (part-alike A i j (sequenceAt q i) s w x) z
 
   raw-alike : (i j : ℕ) → a ≤ i → i + b ≡ j + a → reach i (rawAt q i) ≤ k → SameChar a b (rawAt q i) (rawAt r j)
   unfolding rawAt

@@ -20,7 +20,7 @@ unfolding within
 in-range low high b p q = rw (le-leb low b p, le-leb b high q)
 
 -- a second byte that the first byte's row takes
-second : (a b : ℕ) → a < 256 → 0x80 ≤ b → b ≤ 0xBF → (a ≡ 0xE0 → 0xA0 ≤ b) → (a ≡ 0xF0 → 0x90 ≤ b) → (a ≡ 0xED → b ≤ 0x9F) → (a ≡ 0xF4 → b ≤ 0x8F)
+pub second : (a b : ℕ) → a < 256 → 0x80 ≤ b → b ≤ 0xBF → (a ≡ 0xE0 → 0xA0 ≤ b) → (a ≡ 0xF0 → 0x90 ≤ b) → (a ≡ 0xED → b ≤ 0x9F) → (a ≡ 0xF4 → b ≤ 0x8F)
     → within (secondLow a) (secondHigh a) b ≡ true
 second a b byte l h e0 f0 ed f4 = in-range (secondLow a) (secondHigh a) b (rw (low-by a byte) (low (eqb a 0xE0) refl (eqb a 0xF0) refl)) (rw (high-by a byte) (high (eqb a 0xED) refl (eqb a 0xF4) refl))
   where

@@ -1,7 +1,9 @@
 pub mod WellFormed
 pub mod Blocks
+pub mod SameSequence
 pub mod ScalarValue
 pub mod Characters
 pub mod Encoding
+pub mod WholeSequences
 pub mod Examples
 pub mod Counting

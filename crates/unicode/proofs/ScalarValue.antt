@@ -1,5 +1,5 @@
 -- The scalar value of a sequence, by its length; where a sequence is well-formed it is a scalar value. Assumes nothing.
-use Prim.Native.Nat.{ℕ, _+_, _-_, _*_, _%_, _≤_}
+use Prim.Native.Nat.{ℕ, _+_, _*_, _%_, _≤_, _<_}
 use mathlib.Core.List.{List, [], _∷_}
 use mathlib.Core.Bool.{Bool, true, false, _&&_, false≢true}
 use mathlib.Core.Path.{_≡_, refl}
@@ -7,11 +7,13 @@ use native.Mathlib.Omega.{arith}
 use lib.ListN.{length, getD, take, drop}
 use lib.Dec.{leb}
 use borrow.Author.Tests.{leb-true, le-leb, lt-leb}
+use Rattle.base.proofs.Lists.{left-next}
 use Rattle.base.proofs.Says.{and-both}
 use Rattle.base.specs.Pick.{pick}
 use Rattle.base.specs.Range.{within}
 use Rattle.unicode.specs.WellFormed.{Range, _‥_, table, inRange, fits, sequenceIn, sequenceAt}
 use Rattle.unicode.specs.Scalar.{isScalarValue, scalarOf, scalarAt}
+use Rattle.unicode.proofs.WellFormed.{one-at}
 
 pub scalar-none : (q : List ℕ) → length q ≡ 0 → 0 ≡ scalarOf q
 unfolding scalarOf
@@ -47,6 +49,11 @@ scalar-four (a ∷ []) h = absurd (omega arith)
 scalar-four (a ∷ b ∷ []) h = absurd (omega arith)
 scalar-four (a ∷ b ∷ c ∷ []) h = absurd (omega arith)
 scalar-four (a ∷ b ∷ c ∷ d ∷ q) h = refl
+
+-- a byte below 80 is a character of its own
+pub scalar-ascii : (s : List ℕ) (at : ℕ) → at < length s → getD s at 0 < 0x80 → getD s at 0 ≡ scalarAt s at
+unfolding scalarAt scalarOf
+scalar-ascii s at inside low = rw (← one-at s at inside low, left-next s at inside)
 
 -- ---- a well-formed sequence has a scalar value
 

@@ -1,12 +1,13 @@
 -- The table's answer, from what its rows say of a first byte. Assumes nothing.
 use Prim.Native.Nat.{ℕ, zero, suc, _+_, _-_, _≤_, _<_}
 use mathlib.Core.List.{List, [], _∷_}
-use mathlib.Core.Bool.{Bool, true, false, not, _&&_, false≢true}
+use mathlib.Core.Bool.{Bool, true, false, _&&_, false≢true, and-true, and-assoc}
 use mathlib.Core.Path.{_≡_, refl, ap, sym, _∙_}
 use native.Mathlib.Omega.{arith}
+use native.Mathlib.Decide.{decLt}
 use lib.ListN.{length, getD, take, drop, length-drop}
 use lib.Dec.{ltb, eqb}
-use borrow.Author.Tests.{ltb-true, eqb-false, lt-ltb, le-ltb, eq-eqb, ne-eqb, not-true, not-false}
+use borrow.Author.Tests.{ltb-true, eqb-false, lt-ltb, le-ltb, eq-eqb, ne-eqb}
 use Rattle.base.specs.Pick.{pick}
 use Rattle.base.specs.Range.{within}
 use Rattle.base.proofs.Walk.{from-at}
@@ -206,33 +207,82 @@ module _ (s : List ℕ) (at : ℕ) (inside : at < length s) (byte : getD s at 0 
         by-rest s at inside byte
         ∙ rw (← lead, le-ltb n 2 several, left-next s (at + 1) next, two)
 
-    module _ {low high : ℕ} {r : Bool} (l : low ≡ secondLow (getD s at 0)) (h : high ≡ secondHigh (getD s at 0)) (test : r ≡ within low high (getD s (at + 1) 0)) where
-      pub second-out : not r ≡ true → 0 ≡ sequenceAt s at
-      second-out q = sym (by-second ∙ rw (← l, ← h, ← test, not-true r q))
-
-      pub second-in : not r ≡ false → sequenceAt s at ≡ pick (fits (continuations (n - 2)) (drop (at + 2) s)) n 0
-      second-in q = by-second ∙ rw (← l, ← h, ← test, not-false r q)
-
 -- one continuation byte more
-module _ (s : List ℕ) (at n i : ℕ) (more : i < n) (enough : n ≤ length s - at) where
-  next-byte : fits (continuations (n - i)) (drop (at + i) s) ≡ (within 0x80 0xBF (getD s (at + i) 0) && fits (continuations (n - (i + 1))) (drop (at + (i + 1)) s))
-  unfolding continuations fits inRange
-  next-byte =
-      let one : n - i ≡ suc (n - (i + 1)) = omega arith in
-      let inside : at + i < length s = omega arith in
-      let further : at + i + 1 ≡ at + (i + 1) = omega arith in
-      rw (one, left-next s (at + i) inside, further)
+continues-by : (s : List ℕ) (at n : ℕ) → at < length s
+    → fits (continuations (suc n)) (drop at s) ≡ (within 0x80 0xBF (getD s at 0) && fits (continuations n) (drop (at + 1) s))
+unfolding continuations fits inRange
+continues-by s at n inside = rw (left-next s at inside)
 
-  module _ {r : Bool} (left : sequenceAt s at ≡ pick (fits (continuations (n - i)) (drop (at + i) s)) n 0) (test : r ≡ within 0x80 0xBF (getD s (at + i) 0)) where
-    pub byte-out : not r ≡ true → 0 ≡ sequenceAt s at
-    byte-out q = sym (left ∙ rw (next-byte, ← test, not-true r q))
+-- ---- by the number of bytes that the first one asks for
 
-    pub byte-in : not r ≡ false → sequenceAt s at ≡ pick (fits (continuations (n - (i + 1))) (drop (at + (i + 1)) s)) n 0
-    byte-in q = left ∙ rw (next-byte, ← test, not-false r q)
+module _ (s : List ℕ) (at : ℕ) (inside : at < length s) where
+  pub one-at : getD s at 0 < 0x80 → 1 ≡ sequenceAt s at
+  one-at h = let byte : getD s at 0 < 256 = omega arith in single s at inside byte 1 (lead-ascii _ byte h) (omega arith)
 
-pub bytes-end : (s : List ℕ) (at n i : ℕ) → n ≤ i → sequenceAt s at ≡ pick (fits (continuations (n - i)) (drop (at + i) s)) n 0 → n ≡ sequenceAt s at
-unfolding continuations fits
-bytes-end s at n i h e = let z : n - i ≡ 0 = omega arith in sym (e ∙ rw z)
+  module _ (low : 0x80 ≤ getD s at 0) (high : getD s at 0 < 0xE0) where
+    byte-two : getD s at 0 < 256
+    byte-two = omega arith
+
+    pub two-none : getD s at 0 < 0xC2 → 0 ≡ sequenceAt s at
+    two-none h = single s at inside byte-two 0 (lead-continues _ byte-two low h) (omega arith)
+
+    pub two-short : length s - at < 2 → 0 ≡ sequenceAt s at
+    two-short h = go (decLt (getD s at 0) 0xC2)
+      where
+        go : Dec (getD s at 0 < 0xC2) → 0 ≡ sequenceAt s at
+        go (yes l) = two-none l
+        go (no l) = too-short s at inside byte-two 2 (lead-two _ byte-two low (omega arith) high) h
+
+    module _ (leads : 0xC2 ≤ getD s at 0) where
+      lead-of-two : 2 ≡ leadLength (getD s at 0)
+      lead-of-two = lead-two _ byte-two low leads high
+
+      pub two-by : 2 ≤ length s - at → {r t : Bool} → r ≡ within 0x80 0xBF (getD s (at + 1) 0) → r ≡ t → pick t 2 0 ≡ sequenceAt s at
+      unfolding continuations fits
+      two-by h {r} {t} e d = ap (λ (x : Bool). pick x 2 0) (sym d) ∙ sym
+          (by-second s at inside byte-two 2 lead-of-two h (omega arith)
+          ∙ rw (← low-other _ byte-two (λ q. omega arith) (λ q. omega arith), ← high-other _ byte-two (λ q. omega arith) (λ q. omega arith), ← e, and-true r))
+
+  module _ (low : 0xE0 ≤ getD s at 0) (high : getD s at 0 < 0xF0) where
+    byte-three : getD s at 0 < 256
+    byte-three = omega arith
+
+    lead-of-three : 3 ≡ leadLength (getD s at 0)
+    lead-of-three = lead-three _ byte-three (omega arith) (omega arith) low high
+
+    pub three-short : length s - at < 3 → 0 ≡ sequenceAt s at
+    three-short h = too-short s at inside byte-three 3 lead-of-three h
+
+    pub three-by : 3 ≤ length s - at → {q r t : Bool} → q ≡ within (secondLow (getD s at 0)) (secondHigh (getD s at 0)) (getD s (at + 1) 0)
+        → r ≡ within 0x80 0xBF (getD s (at + 2) 0) → (q && r) ≡ t → pick t 3 0 ≡ sequenceAt s at
+    unfolding continuations fits
+    three-by h {q} {r} {t} e f d = ap (λ (x : Bool). pick x 3 0) (sym d) ∙ sym
+        (by-second s at inside byte-three 3 lead-of-three h (omega arith)
+        ∙ rw (← e, continues-by s (at + 2) 0 (omega arith), ← f, and-true r))
+
+  module _ (low : 0xF0 ≤ getD s at 0) (byte : getD s at 0 < 256) where
+    pub four-none : 0xF5 ≤ getD s at 0 → 0 ≡ sequenceAt s at
+    four-none h = single s at inside byte 0 (lead-none _ byte (omega arith) (omega arith) (omega arith) low h) (omega arith)
+
+    pub four-short : length s - at < 4 → 0 ≡ sequenceAt s at
+    four-short h = go (decLt (getD s at 0) 0xF5)
+      where
+        go : Dec (getD s at 0 < 0xF5) → 0 ≡ sequenceAt s at
+        go (yes l) = too-short s at inside byte 4 (lead-four _ byte (omega arith) (omega arith) (omega arith) low l) h
+        go (no l) = four-none (omega arith)
+
+    module _ (high : getD s at 0 < 0xF5) where
+      lead-of-four : 4 ≡ leadLength (getD s at 0)
+      lead-of-four = lead-four _ byte (omega arith) (omega arith) (omega arith) low high
+
+      pub four-by : 4 ≤ length s - at → {p q r t : Bool} → p ≡ within (secondLow (getD s at 0)) (secondHigh (getD s at 0)) (getD s (at + 1) 0)
+          → q ≡ within 0x80 0xBF (getD s (at + 2) 0) → r ≡ within 0x80 0xBF (getD s (at + 3) 0) → ((p && q) && r) ≡ t → pick t 4 0 ≡ sequenceAt s at
+      unfolding continuations fits
+      four-by h {p} {q} {r} {t} e f g d =
+          let third : at + 2 + 1 ≡ at + 3 = omega arith in
+          ap (λ (x : Bool). pick x 4 0) (sym d) ∙ sym
+          (by-second s at inside byte 4 lead-of-four h (omega arith)
+          ∙ rw (← e, continues-by s (at + 2) 1 (omega arith), third, continues-by s (at + 3) 0 (omega arith), ← f, ← g, and-true r, and-assoc p q r))
 
 -- the check, one step
 pub ill-formed-at : (s : List ℕ) (at : ℕ) → illFormedFrom s at ≡ illFormedStep s at (illFormedFrom s)

@@ -9,10 +9,14 @@ use crate::text::all_ascii;
 
 const BLOCK: usize = 16;
 
-fn is_block(s: &[u8], at: usize) -> bool
+// Whether a block of ASCII starts with the character of `n` bytes.
+fn is_block(s: &[u8], at: usize, n: usize) -> bool
     requires { ⌜ at < length (now s) ⌝ }
     ensures { λ r. ⌜ Block (now (s .entry)) at r ⌝ }
 {
+    if n != 1 {
+        return false;
+    }
     if s.len() - at < BLOCK {
         return false;
     }
@@ -26,14 +30,14 @@ pub fn count_from(s: &[u8], at: usize) -> usize
     let mut next = at;
     let mut count = 0;
     while next < s.len() {
-        if is_block(s, next) {
+        let n = sequence_at(s, next);
+        if n == 0 {
+            return count;
+        }
+        if is_block(s, next, n) {
             next += BLOCK;
             count += BLOCK;
         } else {
-            let n = sequence_at(s, next);
-            if n == 0 {
-                return count;
-            }
             next += n;
             count += 1;
         }

@@ -3,3 +3,4 @@ pub mod count;
 pub mod scalar;
 pub mod sequence;
 pub mod text;
+mod whole;

@@ -1,30 +1,11 @@
 // The well-formed sequence at a place (the Unicode Standard, Table 3-7).
 ghost use mathlib.Core.Path.{_≡_};
-ghost use Rattle.unicode.specs.Lead.{leadLength, secondLow, secondHigh};
+ghost use Prim.Native.Nat.{_≤_, _<_};
+ghost use lib.ListN.{length, getD};
+ghost use Rattle.base.specs.Range.{within};
+ghost use Rattle.unicode.specs.Lead.{secondLow, secondHigh};
 ghost use Rattle.unicode.specs.WellFormed.{sequenceAt};
 use base::bytes::in_range;
-
-// The length of the sequences that start with the byte; 0 if none does.
-fn lead_length(b: u8) -> usize
-    ensures { λ r. ⌜ r ≡ leadLength b ⌝ }
-{
-    if b < 0x80 {
-        return 1;
-    }
-    if b < 0xc2 {
-        return 0;
-    }
-    if b < 0xe0 {
-        return 2;
-    }
-    if b < 0xf0 {
-        return 3;
-    }
-    if b < 0xf5 {
-        return 4;
-    }
-    0
-}
 
 // After E0 and F0 lower bytes would be an overlong form.
 fn second_low(b: u8) -> u8
@@ -52,6 +33,65 @@ fn second_high(b: u8) -> u8
     0xbf
 }
 
+// Whether a byte may come after the first one.
+fn is_second(first: u8, b: u8) -> bool
+    ensures { λ r. ⌜ r ≡ within (secondLow first) (secondHigh first) b ⌝ }
+{
+    in_range(second_low(first), second_high(first), b)
+}
+
+// Whether a byte may come after the second one, and after a first one of two.
+fn continues(b: u8) -> bool
+    ensures { λ r. ⌜ r ≡ within 0x80 0xBF b ⌝ }
+{
+    in_range(0x80, 0xbf, b)
+}
+
+fn two_at(s: &[u8], at: usize) -> usize
+    requires { ⌜ (at < length (now s)) × (0x80 ≤ getD (now s) at 0) × (getD (now s) at 0 < 0xE0) ⌝ }
+    ensures { λ r. ⌜ r ≡ sequenceAt (now (s .entry)) at ⌝ }
+{
+    if s[at] < 0xc2 {
+        return 0;
+    }
+    if s.len() - at < 2 {
+        return 0;
+    }
+    if continues(s[at + 1]) {
+        return 2;
+    }
+    0
+}
+
+fn three_at(s: &[u8], at: usize) -> usize
+    requires { ⌜ (at < length (now s)) × (0xE0 ≤ getD (now s) at 0) × (getD (now s) at 0 < 0xF0) ⌝ }
+    ensures { λ r. ⌜ r ≡ sequenceAt (now (s .entry)) at ⌝ }
+{
+    if s.len() - at < 3 {
+        return 0;
+    }
+    if is_second(s[at], s[at + 1]) & continues(s[at + 2]) {
+        return 3;
+    }
+    0
+}
+
+fn four_at(s: &[u8], at: usize) -> usize
+    requires { ⌜ (at < length (now s)) × (0xF0 ≤ getD (now s) at 0) × (getD (now s) at 0 < 256) ⌝ }
+    ensures { λ r. ⌜ r ≡ sequenceAt (now (s .entry)) at ⌝ }
+{
+    if 0xf5 <= s[at] {
+        return 0;
+    }
+    if s.len() - at < 4 {
+        return 0;
+    }
+    if is_second(s[at], s[at + 1]) & continues(s[at + 2]) & continues(s[at + 3]) {
+        return 4;
+    }
+    0
+}
+
 // The length of the well-formed sequence at a place; 0 if none starts there.
 pub fn sequence_at(s: &[u8], at: usize) -> usize
     ensures { λ r. ⌜ r ≡ sequenceAt (now (s .entry)) at ⌝ }
@@ -60,22 +100,14 @@ pub fn sequence_at(s: &[u8], at: usize) -> usize
         return 0;
     }
     let b = s[at];
-    let n = lead_length(b);
-    if s.len() - at < n {
-        return 0;
+    if b < 0x80 {
+        return 1;
     }
-    if n < 2 {
-        return n;
+    if b < 0xe0 {
+        return two_at(s, at);
     }
-    if !in_range(second_low(b), second_high(b), s[at + 1]) {
-        return 0;
+    if b < 0xf0 {
+        return three_at(s, at);
     }
-    let mut i = 2;
-    while i < n {
-        if !in_range(0x80, 0xbf, s[at + i]) {
-            return 0;
-        }
-        i += 1;
-    }
-    n
+    four_at(s, at)
 }

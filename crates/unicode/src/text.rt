@@ -1,9 +1,10 @@
 // A whole text.
+use crate::whole::pass_whole;
 ghost use mathlib.Core.Path.{_≡_};
-ghost use Prim.Native.Nat.{_-_, _≤_, _<_};
+ghost use Prim.Native.Nat.{_-_, _≤_, _<_, min};
 ghost use lib.ListN.{length};
 ghost use Rattle.unicode.specs.WellFormed.{firstIllFormed};
-ghost use Rattle.unicode.specs.Blocks.{allAscii, EndsAscii, Passed};
+ghost use Rattle.unicode.specs.Blocks.{allAscii, EndsAscii, Passed, Walked};
 
 pub enum Utf8 {
     WellFormed,
@@ -24,15 +25,15 @@ pub(crate) fn all_ascii(s: &[u8], at: usize, n: usize) -> bool
     all
 }
 
-// The end of the sequences that start before `stop`, or the first ill-formed place among them.
+// The end of the sequences from `at` on that end by `stop`, or the first ill-formed place among them.
 fn pass_sequences(s: &[u8], at: usize, stop: usize) -> usize
     requires { ⌜ (at < stop) × (stop ≤ length (now s)) ⌝ }
-    ensures { λ r. ⌜ Passed (now (s .entry)) at r ⌝ }
+    ensures { λ r. ⌜ Passed (now (s .entry)) at stop r ⌝ }
 {
     let mut next = at;
     while next < stop {
         let n = crate::sequence::sequence_at(s, next);
-        if n == 0 {
+        if (n == 0) | (stop - next < n) {
             return next;
         }
         next += n;
@@ -40,56 +41,77 @@ fn pass_sequences(s: &[u8], at: usize, stop: usize) -> usize
     next
 }
 
-// Whether the last `left` bytes are ASCII, by blocks that may overlap; of a text of fewer than 4 bytes it isn't told.
-fn ends_ascii(s: &[u8], left: usize) -> bool
-    requires { ⌜ left < 16 ⌝ }
-    ensures { λ r. ⌜ EndsAscii (now (s .entry)) left r ⌝ }
+// Whether the last `left` bytes before `stop` are ASCII, by blocks that may overlap; where fewer than 4 bytes stand before it isn't told.
+fn ends_ascii(s: &[u8], stop: usize, left: usize) -> bool
+    requires { ⌜ (left < 16) × (stop ≤ length (now s)) ⌝ }
+    ensures { λ r. ⌜ EndsAscii (now (s .entry)) stop left r ⌝ }
 {
-    let n = s.len();
-    if 16 <= n {
-        return all_ascii(s, n - 16, 16);
+    if 16 <= stop {
+        return all_ascii(s, stop - 16, 16);
     }
-    if 8 <= n {
-        return all_ascii(s, 0, 8) & all_ascii(s, n - 8, 8);
+    if 8 <= stop {
+        return all_ascii(s, 0, 8) & all_ascii(s, stop - 8, 8);
     }
-    if 4 <= n {
-        return all_ascii(s, 0, 4) & all_ascii(s, n - 4, 4);
+    if 4 <= stop {
+        return all_ascii(s, 0, 4) & all_ascii(s, stop - 4, 4);
     }
     false
 }
 
-// The end of the next block: 16 bytes of ASCII or fewer at the end; or sequences of 256 bytes or so, so that a text with many others is seldom tried in vain.
-fn pass_block(s: &[u8], at: usize) -> usize
-    requires { ⌜ at < length (now s) ⌝ }
-    ensures { λ r. ⌜ Passed (now (s .entry)) at r ⌝ }
+// The end of the next block: 16 bytes of ASCII or fewer at the end; blocks of sequences of up to three bytes; or sequences of 64 bytes or so, so that a text with many others is seldom tried in vain.
+fn pass_block(s: &[u8], at: usize, stop: usize) -> usize
+    requires { ⌜ (at < stop) × (stop ≤ length (now s)) ⌝ }
+    ensures { λ r. ⌜ Passed (now (s .entry)) at stop r ⌝ }
 {
-    let left = s.len() - at;
+    let left = stop - at;
     if left < 16 {
-        if ends_ascii(s, left) {
-            return s.len();
+        if ends_ascii(s, stop, left) {
+            return stop;
         }
-        return pass_sequences(s, at, s.len());
+        return pass_sequences(s, at, stop);
     }
     if all_ascii(s, at, 16) {
         return at + 16;
     }
-    if left < 256 {
-        return pass_sequences(s, at, s.len());
+    let next = pass_whole(s, at, stop);
+    if next != at {
+        return next;
     }
-    pass_sequences(s, at, at + 256)
+    if left < 64 {
+        return pass_sequences(s, at, stop);
+    }
+    pass_sequences(s, at, at + 64)
+}
+
+fn smaller(m: usize, n: usize) -> usize
+    ensures { λ r. ⌜ r ≡ min m n ⌝ }
+{
+    if m < n { m } else { n }
+}
+
+// The end of the sequences from `at` on that end by `stop`: the last one's, or the first ill-formed place.
+pub fn pass_text(s: &[u8], at: usize, stop: usize) -> usize
+    ensures { λ r. ⌜ Walked (now (s .entry)) at stop r ⌝ }
+{
+    let end = smaller(s.len(), stop);
+    let mut next = at;
+    while next < end {
+        let then = pass_block(s, next, end);
+        if then == next {
+            return next;
+        }
+        next = then;
+    }
+    next
 }
 
 // Whether a text is well-formed, with the first byte of its first ill-formed sequence if it isn't.
 pub fn check_utf8(s: &[u8]) -> Utf8
     ensures { λ r. ⌜ r ≡ firstIllFormed (now (s .entry)) ⌝ }
 {
-    let mut at = 0;
-    while at < s.len() {
-        let next = pass_block(s, at);
-        if next == at {
-            return Utf8::IllFormed(at);
-        }
-        at = next;
+    let end = pass_text(s, 0, s.len());
+    if end < s.len() {
+        return Utf8::IllFormed(end);
     }
     Utf8::WellFormed
 }

@@ -1,5 +1,6 @@
 pub mod Laws
 pub mod PlainUnits
+pub mod CharacterUnits
 pub mod Ordering
 pub mod Reading
 pub mod Comparing

@@ -21,37 +21,38 @@ use Rattle.string_literal.specs.Char.{unicodeChar, rawAt, charAt}
 use Rattle.string_literal.proofs.Ascii.{low-byte}
 use Rattle.value.specs.declared.unit.Form.{Form}
 use Rattle.value.specs.declared.unit.Form.the-variants.{Bytes, Utf8, Char16, Hex, Quoted, Encoded}
+use Rattle.value.specs.declared.class.Class.{Class}
 use Rattle.value.specs.declared.plain.Skipped.{Skipped}
 use Rattle.value.specs.declared.plain.Skipped.the-variants.{Differ, Past}
 use Rattle.value.specs.declared.same.Pair.{Pair}
 use Rattle.value.specs.declared.same.Pair.the-variants as pair
 use Rattle.value.specs.Unit.{unitsFrom}
-use Rattle.value.specs.Plain.{isPlain, isBytewise, samePlain, otherPlain, commonPlain, Common, Onward, Skips, Pairs}
+use Rattle.value.specs.Plain.{isPlain, isIn, plainClass, isBytewise, sameIn, otherPlain, commonIn, Common, Onward, Skips, Pairs}
 use Rattle.value.proofs.Laws.{quoted-next, encoded-last, one-length, one-byte}
 
 -- what a plain byte is
-record Plainly (b : ℕ) : Type 0 where
-  from : 0x20 ≤ b
-  to : b ≤ 0x7E
-  quote : b ≡ 39 → ⊥
-  slash : b ≡ 92 → ⊥
+pub record Plainly (high b : ℕ) : Type 0 where
+  pub from : 0x20 ≤ b
+  pub to : b ≤ high
+  pub quote : b ≡ 39 → ⊥
+  pub slash : b ≡ 92 → ⊥
 
-plainly : (b : ℕ) → isPlain b ≡ true → Plainly b
+pub plainly : (high b : ℕ) → isPlain high b ≡ true → Plainly high b
 unfolding isPlain within
-plainly b h =
-    let p = and-both ((leb 0x20 b && leb b 0x7E) && not (eqb b 39)) (not (eqb b 92)) h in
-    let q = and-both (leb 0x20 b && leb b 0x7E) (not (eqb b 39)) (p .0) in
-    let r = and-both (leb 0x20 b) (leb b 0x7E) (q .0) in
+plainly high b h =
+    let p = and-both ((leb 0x20 b && leb b high) && not (eqb b 39)) (not (eqb b 92)) h in
+    let q = and-both (leb 0x20 b && leb b high) (not (eqb b 39)) (p .0) in
+    let r = and-both (leb 0x20 b) (leb b high) (q .0) in
     record {
       from = leb-true 0x20 b (r .0);
-      to = leb-true b 0x7E (r .1);
+      to = leb-true b high (r .1);
       quote = λ e. apart (sym (not-true _ (q .1)) ∙ eq-eqb b 39 e);
       slash = λ e. apart (sym (not-true _ (p .1)) ∙ eq-eqb b 92 e);
     }
 
-module _ (s : List ℕ) (at : ℕ) (plain : isPlain (byteAt s at) ≡ true) where
-  is : Plainly (byteAt s at)
-  is = plainly (byteAt s at) plain
+module _ (s : List ℕ) (at : ℕ) (plain : isPlain 0x7E (byteAt s at) ≡ true) where
+  is : Plainly 0x7E (byteAt s at)
+  is = plainly 0x7E (byteAt s at) plain
 
   inside : at < length s
   inside = byte-within s at (λ e. omega (arith, is .from))
@@ -71,7 +72,7 @@ module _ (s : List ℕ) (at : ℕ) (plain : isPlain (byteAt s at) ≡ true) wher
   below = omega (arith, is .to)
 
   -- one law for all these forms
-  pub plain-unit : (f : Form) → isBytewise f ≡ true → unitsFrom f s at ≡ byteAt s at ∷ unitsFrom f s (at + 1)
+  plain-unit : (f : Form) → isBytewise f ≡ true → unitsFrom f s at ≡ byteAt s at ∷ unitsFrom f s (at + 1)
   unfolding unitsFrom
   plain-unit Bytes h = left-next s at inside
   plain-unit Utf8 h = rw (← low .0, ← low .1) (characters-next s at (λ z. absurd (omega (arith, low .0))))
@@ -83,83 +84,92 @@ module _ (s : List ℕ) (at : ℕ) (plain : isPlain (byteAt s at) ≡ true) wher
       first : unitsFrom (Encoded 0) s at ≡ byteAt s at ∷ unitsFrom (Encoded 0) s (at + 1)
       first = encoded-last s at in-string 0 (byteAt s at) (at + 1) refl 1 (one-length (byteAt s at) 0 below) (byteAt s at) (one-byte (byteAt s at) 0 below (omega (arith, one-length (byteAt s at) 0 below))) (omega arith) (omega arith)
 
+-- a byte of the class is its own unit in the form
+abbrev pub Units : Class → Form → Type 0
+Units c f = (s : List ℕ) (at : ℕ) → at < length s → isIn c (byteAt s at) ≡ true → unitsFrom f s at ≡ byteAt s at ∷ unitsFrom f s (at + 1)
+
 pub encoded-bytewise : (f : Form) (k : ℕ) → f ≡ Encoded k → eqb k 0 ≡ isBytewise f
 encoded-bytewise f k e = rw e
 
--- one byte more, and one run behind another
-pub common-more : (a : List ℕ) (at : ℕ) (b : List ℕ) (beside i : ℕ) {all d : Bool} → all ≡ commonPlain a at b beside i → d ≡ samePlain (byteAt a (at + i)) (byteAt b (beside + i))
-    → (all && d) ≡ commonPlain a at b beside (i + 1)
-unfolding commonPlain
-common-more a at b beside i e f = rw (add-one i, ← e, ← f)
+module _ (c : Class) where
+  -- one byte more, and one run behind another
+  pub common-more : (a : List ℕ) (at : ℕ) (b : List ℕ) (beside i : ℕ) {all d : Bool} → all ≡ commonIn c a at b beside i → d ≡ sameIn c (byteAt a (at + i)) (byteAt b (beside + i))
+      → (all && d) ≡ commonIn c a at b beside (i + 1)
+  unfolding commonIn
+  common-more a at b beside i e f = rw (add-one i, ← e, ← f)
 
-common-joined : (a : List ℕ) (at : ℕ) (b : List ℕ) (beside n m : ℕ) → commonPlain a at b beside n ≡ true → commonPlain a (at + n) b (beside + n) m ≡ true
-    → commonPlain a at b beside (n + m) ≡ true
-unfolding commonPlain
-common-joined a at b beside n zero h k = rw (add-zero n) h
-common-joined a at b beside n (suc m) h k =
-    let p = and-both (commonPlain a (at + n) b (beside + n) m) (samePlain (byteAt a (at + n + m)) (byteAt b (beside + n + m))) k in
-    let e : n + suc m ≡ suc (n + m) = omega arith in
-    let x : at + n + m ≡ at + (n + m) = omega arith in
-    let y : beside + n + m ≡ beside + (n + m) = omega arith in
-    rw (e, common-joined a at b beside n m h (p .0), ← x, ← y) (p .1)
+  common-joined : (a : List ℕ) (at : ℕ) (b : List ℕ) (beside n m : ℕ) → commonIn c a at b beside n ≡ true → commonIn c a (at + n) b (beside + n) m ≡ true
+      → commonIn c a at b beside (n + m) ≡ true
+  unfolding commonIn
+  common-joined a at b beside n zero h k = rw (add-zero n) h
+  common-joined a at b beside n (suc m) h k =
+      let p = and-both (commonIn c a (at + n) b (beside + n) m) (sameIn c (byteAt a (at + n + m)) (byteAt b (beside + n + m))) k in
+      let e : n + suc m ≡ suc (n + m) = omega arith in
+      let x : at + n + m ≡ at + (n + m) = omega arith in
+      let y : beside + n + m ≡ beside + (n + m) = omega arith in
+      rw (e, common-joined a at b beside n m h (p .0), ← x, ← y) (p .1)
 
--- ---- as the code meets them
-module _ (a : List ℕ) (at : ℕ) (b : List ℕ) (beside limit : ℕ) (left : limit ≤ length a - at) (right : limit ≤ length b - beside) where
-  module _ (n : ℕ) (some : n ≤ limit) (common : commonPlain a at b beside n ≡ true) where
-    pub common-found : Common a at b beside n
-    common-found = record { within-left = omega arith; within-right = omega arith; common = common }
+  -- ---- as the code meets them
+  module _ (a : List ℕ) (at : ℕ) (b : List ℕ) (beside limit : ℕ) (left : limit ≤ length a - at) (right : limit ≤ length b - beside) where
+    module _ (n : ℕ) (some : n ≤ limit) (common : commonIn c a at b beside n ≡ true) where
+      pub common-found : Common c a at b beside n
+      common-found = record { within-left = omega arith; within-right = omega arith; common = common }
 
-    pub block-more : {r : Bool} → r ≡ commonPlain a (at + n) b (beside + n) 16 → not r ≡ false → commonPlain a at b beside (n + 16) ≡ true
-    block-more e h = common-joined a at b beside n 16 common (sym e ∙ not-false _ h)
+      pub block-more : {r : Bool} → r ≡ commonIn c a (at + n) b (beside + n) 16 → not r ≡ false → commonIn c a at b beside (n + 16) ≡ true
+      block-more e h = common-joined a at b beside n 16 common (sym e ∙ not-false _ h)
 
-    pub byte-more : {r : Bool} → r ≡ samePlain (byteAt a (at + n)) (byteAt b (beside + n)) → not r ≡ false → commonPlain a at b beside (n + 1) ≡ true
-    byte-more {r} e h = sym (common-more a at b beside n (sym common) e) ∙ not-false r h
+      pub byte-more : {r : Bool} → r ≡ sameIn c (byteAt a (at + n)) (byteAt b (beside + n)) → not r ≡ false → commonIn c a at b beside (n + 1) ≡ true
+      byte-more {r} e h = sym (common-more a at b beside n (sym common) e) ∙ not-false r h
 
-module _ (f : Form) (a : List ℕ) (at : ℕ) (g : Form) (b : List ℕ) (beside : ℕ) (lefts : isBytewise f ≡ true) (rights : isBytewise g ≡ true) where
-  -- the same plain byte on both sides
-  one-onward : (i j : ℕ) → samePlain (byteAt a i) (byteAt b j) ≡ true → Onward (unitsFrom f a i) (unitsFrom g b j) (unitsFrom f a (i + 1)) (unitsFrom g b (j + 1))
+module _ (c : Class) (f : Form) (a : List ℕ) (at : ℕ) (g : Form) (b : List ℕ) (beside : ℕ) (lefts : Units c f) (rights : Units c g) where
+  -- the same byte of the class on both sides
+  one-onward : (i j : ℕ) → i < length a → j < length b → sameIn c (byteAt a i) (byteAt b j) ≡ true
+      → Onward (unitsFrom f a i) (unitsFrom g b j) (unitsFrom f a (i + 1)) (unitsFrom g b (j + 1))
   unfolding sameBytes
-  one-onward i j h =
-      let p = and-both (isPlain (byteAt a i)) (eqb (byteAt a i) (byteAt b j)) h in
+  one-onward i j l m h =
+      let p = and-both (isIn c (byteAt a i)) (eqb (byteAt a i) (byteAt b j)) h in
       let e = eqb-true (byteAt a i) (byteAt b j) (p .1) in
-      let u = plain-unit a i (p .0) f lefts in
-      let v = plain-unit b j (rw e at (p .0)) g rights in
+      let u = lefts a i l (p .0) in
+      let v = rights b j m (rw e at (p .0)) in
       record { same = rw (u, v, p .1); fewer = rw u (omega arith) }
 
-  common-onward : (n : ℕ) → commonPlain a at b beside n ≡ true → Onward (unitsFrom f a at) (unitsFrom g b beside) (unitsFrom f a (at + n)) (unitsFrom g b (beside + n))
-  unfolding commonPlain
-  common-onward zero h = rw (add-zero at, add-zero beside) (record { same = refl; fewer = omega arith })
-  common-onward (suc n) h =
-      let p = and-both (commonPlain a at b beside n) (samePlain (byteAt a (at + n)) (byteAt b (beside + n))) h in
+  pub common-onward : (n : ℕ) → n ≤ length a - at → n ≤ length b - beside → commonIn c a at b beside n ≡ true
+      → Onward (unitsFrom f a at) (unitsFrom g b beside) (unitsFrom f a (at + n)) (unitsFrom g b (beside + n))
+  unfolding commonIn
+  common-onward zero l m h = rw (add-zero at, add-zero beside) (record { same = refl; fewer = omega arith })
+  common-onward (suc n) l m h =
+      let p = and-both (commonIn c a at b beside n) (sameIn c (byteAt a (at + n)) (byteAt b (beside + n))) h in
       let x : at + suc n ≡ at + n + 1 = omega arith in
       let y : beside + suc n ≡ beside + n + 1 = omega arith in
-      let before = common-onward n (p .0) in
-      let last = one-onward (at + n) (beside + n) (p .1) in
+      let before = common-onward n (omega arith) (omega arith) (p .0) in
+      let last = one-onward (at + n) (beside + n) (omega arith) (omega arith) (p .1) in
       rw (x, y) (record { same = before .same ∙ last .same; fewer = omega (arith, before .fewer, last .fewer) })
 
-  two-differ : (i j : ℕ) → otherPlain (byteAt a i) (byteAt b j) ≡ true → sameBytes (unitsFrom f a i) (unitsFrom g b j) ≡ false
-  unfolding sameBytes
-  two-differ i j h =
-      let p = and-both (isPlain (byteAt a i) && isPlain (byteAt b j)) (not (eqb (byteAt a i) (byteAt b j))) h in
-      let q = and-both (isPlain (byteAt a i)) (isPlain (byteAt b j)) (p .0) in
-      rw (plain-unit a i (q .0) f lefts, plain-unit b j (q .1) g rights, not-true (eqb (byteAt a i) (byteAt b j)) (p .1))
+two-differ : (f : Form) (a : List ℕ) (i : ℕ) (g : Form) (b : List ℕ) (j : ℕ) → isBytewise f ≡ true → isBytewise g ≡ true → otherPlain (byteAt a i) (byteAt b j) ≡ true
+    → sameBytes (unitsFrom f a i) (unitsFrom g b j) ≡ false
+unfolding sameBytes
+two-differ f a i g b j lefts rights h =
+    let p = and-both (isPlain 0x7E (byteAt a i) && isPlain 0x7E (byteAt b j)) (not (eqb (byteAt a i) (byteAt b j))) h in
+    let q = and-both (isPlain 0x7E (byteAt a i)) (isPlain 0x7E (byteAt b j)) (p .0) in
+    rw (plain-unit a i (q .0) f lefts, plain-unit b j (q .1) g rights, not-true (eqb (byteAt a i) (byteAt b j)) (p .1))
 
 module _ (f : Form) (a : List ℕ) (at : ℕ) (g : Form) (b : List ℕ) (beside : ℕ) where
   pub nothing-skipped : Skips f a at g b beside (Past at beside)
   nothing-skipped = record { same = refl; fewer = omega arith }
 
-  module _ {l r : Bool} (lefts : l ≡ isBytewise f) (rights : r ≡ isBytewise g) (test : not (l && r) ≡ false) {n : ℕ} (run : Common a at b beside n) where
-    both-bytewise : (l ≡ true) × (r ≡ true)
-    both-bytewise = and-both l r (not-false (l && r) test)
+  module _ {l r : Bool} (lefts : l ≡ isBytewise f) (rights : r ≡ isBytewise g) (test : not (l && r) ≡ false) {n : ℕ} (run : Common plainClass a at b beside n) where
+    left-is : isBytewise f ≡ true
+    left-is = sym lefts ∙ and-both l r (not-false (l && r) test) .0
+
+    right-is : isBytewise g ≡ true
+    right-is = sym rights ∙ and-both l r (not-false (l && r) test) .1
 
     pub plain-skipped : Skips f a at g b beside (Past (at + n) (beside + n))
-    plain-skipped = common-onward f a at g b beside (sym lefts ∙ both-bytewise .0) (sym rights ∙ both-bytewise .1) n (run .common)
+    plain-skipped =
+        common-onward plainClass f a at g b beside (λ s i k h. plain-unit s i h f left-is) (λ s i k h. plain-unit s i h g right-is) n (run .within-left) (run .within-right) (run .common)
 
     pub plain-differ : {d : Bool} → d ≡ otherPlain (byteAt a (at + n)) (byteAt b (beside + n)) → d ≡ true → Skips f a at g b beside Differ
-    plain-differ e h =
-        let x = sym lefts ∙ both-bytewise .0 in
-        let y = sym rights ∙ both-bytewise .1 in
-        sym (common-onward f a at g b beside x y n (run .common) .same ∙ two-differ f a at g b beside x y (at + n) (beside + n) (sym e ∙ h))
+    plain-differ e h = sym (plain-skipped .same ∙ two-differ f a (at + n) g b (beside + n) left-is right-is (sym e ∙ h))
 
 -- the loop over both: plain bytes are skipped, then one unit of each is compared
 module _ (w : Bool) (f : Form) (a : List ℕ) (i : ℕ) (g : Form) (b : List ℕ) (j : ℕ) (inv : w ≡ sameBytes (unitsFrom f a i) (unitsFrom g b j)) (s : Skipped) (es : Skips f a i g b j s) where

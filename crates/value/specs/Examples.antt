@@ -86,6 +86,10 @@ comparisons =
     -- text by characters: é is C3 A9 in UTF-8, E9 00 as a char16
     ∷ (it Equal (string (195 ∷ 169 ∷ [])) (char16 (233 ∷ 0 ∷ [])), true)
     ∷ (it Equal (string (195 ∷ 169 ∷ 195 ∷ 169 ∷ [])) (char16 (233 ∷ 0 ∷ [])), false)
+    -- é一 and é丁, and ill-formed ends, which are no characters
+    ∷ (it Equal (string (195 ∷ 169 ∷ 228 ∷ 184 ∷ 128 ∷ [])) (string (195 ∷ 169 ∷ 228 ∷ 184 ∷ 128 ∷ [])), true)
+    ∷ (it Equal (string (195 ∷ 169 ∷ 228 ∷ 184 ∷ 128 ∷ [])) (string (195 ∷ 169 ∷ 228 ∷ 184 ∷ 129 ∷ [])), false)
+    ∷ (it Equal (string (195 ∷ 169 ∷ 195 ∷ [])) (string (195 ∷ 169 ∷ 228 ∷ 184 ∷ [])), true)
     ∷ (it Equal (string (bytes "FAN_2")) (string (bytes "FAN_")), false)
     ∷ (it Equal (string (bytes "a")) (string (bytes "A")), false)
     ∷ (it Equal (string (bytes "a")) (some (reference (bytes "a"))), false)

@@ -5,7 +5,10 @@ ghost use mathlib.Core.Path.{_≡_};
 ghost use Prim.Native.Nat.{_-_, _≤_};
 ghost use lib.ListN.{length};
 ghost use Rattle.base.specs.Part.{byteAt};
-ghost use Rattle.value.specs.Plain.{isPlain, isBytewise, samePlain, otherPlain, commonPlain, Common, Skips};
+ghost use Rattle.value.specs.Plain.{isPlain, plainClass, isBytewise, sameIn, otherPlain, commonIn, Common, Skips};
+
+// The last plain byte.
+const LAST: u8 = 0x7e;
 
 // That the units from two places on differ, or the places after the plain bytes that both have in common there.
 pub enum Skipped {
@@ -13,10 +16,11 @@ pub enum Skipped {
     Past(usize, usize),
 }
 
-fn is_plain(b: u8) -> bool
-    ensures { λ r. ⌜ r ≡ isPlain b ⌝ }
+// Whether a byte is from the blank to `high`, and neither quote nor backslash, which a string literal takes for its own.
+pub fn is_plain(high: u8, b: u8) -> bool
+    ensures { λ r. ⌜ r ≡ isPlain high b ⌝ }
 {
-    (0x20 <= b) & (b <= 0x7e) & (b != b'\'') & (b != b'\\')
+    (0x20 <= b) & (b <= high) & (b != b'\'') & (b != b'\\')
 }
 
 fn is_bytewise(form: Form) -> bool
@@ -33,9 +37,9 @@ fn is_bytewise(form: Form) -> bool
 }
 
 fn same_plain(x: u8, y: u8) -> bool
-    ensures { λ r. ⌜ r ≡ samePlain x y ⌝ }
+    ensures { λ r. ⌜ r ≡ sameIn plainClass x y ⌝ }
 {
-    is_plain(x) & (x == y)
+    is_plain(LAST, x) & (x == y)
 }
 
 // Whether the bytes at two places are plain and differ; where there is none, 0 is read, which isn't plain.
@@ -44,11 +48,11 @@ fn other_plain<'a>(a: &'a [u8], at: usize, b: &'a [u8], beside: usize) -> bool
 {
     let x = byte_at(a, at);
     let y = byte_at(b, beside);
-    is_plain(x) & is_plain(y) & (x != y)
+    is_plain(LAST, x) & is_plain(LAST, y) & (x != y)
 }
 
 // How many bytes both have from their places on.
-fn both_left<'a>(a: &'a [u8], at: usize, b: &'a [u8], beside: usize) -> usize
+pub fn both_left<'a>(a: &'a [u8], at: usize, b: &'a [u8], beside: usize) -> usize
     ensures { λ r. ⌜ (r ≤ length (now (a .entry)) - at) × (r ≤ length (now (b .entry)) - beside) ⌝ }
 {
     if a.len() <= at {
@@ -66,7 +70,7 @@ fn both_left<'a>(a: &'a [u8], at: usize, b: &'a [u8], beside: usize) -> usize
 // Whether the 16 bytes from two places on are the same and plain. All of them are looked at: where no byte ends the loop early, the compiler tests them at once.
 fn common_block<'a>(a: &'a [u8], at: usize, b: &'a [u8], beside: usize) -> bool
     requires { ⌜ (16 ≤ length (now a) - at) × (16 ≤ length (now b) - beside) ⌝ }
-    ensures { λ r. ⌜ r ≡ commonPlain (now (a .entry)) at (now (b .entry)) beside 16 ⌝ }
+    ensures { λ r. ⌜ r ≡ commonIn plainClass (now (a .entry)) at (now (b .entry)) beside 16 ⌝ }
 {
     let mut all = true;
     let mut i = 0;
@@ -80,7 +84,7 @@ fn common_block<'a>(a: &'a [u8], at: usize, b: &'a [u8], beside: usize) -> bool
 // The blocks of 16 among `limit` bytes that are the same and plain, up to the first that isn't.
 fn common_blocks<'a>(a: &'a [u8], at: usize, b: &'a [u8], beside: usize, limit: usize) -> usize
     requires { ⌜ (limit ≤ length (now a) - at) × (limit ≤ length (now b) - beside) ⌝ }
-    ensures { λ r. ⌜ (r ≤ limit) × Common (now (a .entry)) at (now (b .entry)) beside r ⌝ }
+    ensures { λ r. ⌜ (r ≤ limit) × Common plainClass (now (a .entry)) at (now (b .entry)) beside r ⌝ }
 {
     let mut n = 0;
     while 16 <= limit - n {
@@ -94,7 +98,7 @@ fn common_blocks<'a>(a: &'a [u8], at: usize, b: &'a [u8], beside: usize, limit: 
 
 // How many bytes from two places on are the same and plain.
 fn common_run<'a>(a: &'a [u8], at: usize, b: &'a [u8], beside: usize) -> usize
-    ensures { λ r. ⌜ Common (now (a .entry)) at (now (b .entry)) beside r ⌝ }
+    ensures { λ r. ⌜ Common plainClass (now (a .entry)) at (now (b .entry)) beside r ⌝ }
 {
     let limit = both_left(a, at, b, beside);
     let mut n = common_blocks(a, at, b, beside, limit);
@@ -120,7 +124,7 @@ pub fn skip_plain<'a>(
     if !(is_bytewise(f) & is_bytewise(g)) {
         return Skipped::Past(at, beside);
     }
-    if !is_plain(byte_at(a, at)) {
+    if !is_plain(LAST, byte_at(a, at)) {
         return Skipped::Past(at, beside);
     }
     let n = common_run(a, at, b, beside);

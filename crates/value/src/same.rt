@@ -1,6 +1,6 @@
 // Whether two sequences of units are the same.
 use crate::plain::Skipped;
-use crate::plain::skip_plain;
+use crate::skip::skip_common;
 use crate::unit::Form;
 use crate::unit::Next;
 use crate::unit::next_unit;
@@ -45,7 +45,7 @@ pub fn same_units<'a>(f: Form, a: &'a [u8], i: usize, g: Form, b: &'a [u8], j: u
     let mut right = g;
     let mut beside = j;
     loop {
-        match skip_plain(left, a, at, right, b, beside) {
+        match skip_common(left, a, at, right, b, beside) {
             Skipped::Differ => return false,
             Skipped::Past(first, second) => match next_units(left, a, first, right, b, second) {
                 Pair::Same(form, place, other, then) => {

@@ -17,6 +17,12 @@ abbrev μ-loop : tie.MeasureT-loop
 loop-holds : tie.Need-loop-holds Inv-loop μ-loop
 loop-holds c = search law.counted-start
 
+sequence-at-requires : tie.Need-sequence-at-requires Inv-loop μ-loop
+sequence-at-requires c κs = search needs
+
+returns : tie.Need-returns Inv-loop μ-loop
+returns c = search law.counted-stop
+
 is-block-requires : tie.Need-is-block-requires Inv-loop μ-loop
 is-block-requires c κs = search needs
 
@@ -32,14 +38,8 @@ loop-less c = search needs
 loop-again : tie.Need-loop-again Inv-loop μ-loop
 loop-again c = search law.counted-block
 
-sequence-at-requires : tie.Need-sequence-at-requires Inv-loop μ-loop
-sequence-at-requires c κs = search needs
-
-returns : tie.Need-returns Inv-loop μ-loop
-returns c = search law.counted-stop
-
 add-next-2 : tie.Need-add-next-2 Inv-loop μ-loop
-add-next-2 c = omega (arith, c .before .sequence-at .ensures, sequence-fits (c .before .before .before .before .before .before .before .args .s .now) (c .before .before .before .before .before .loop .next))
+add-next-2 c = omega (arith, c .before .before .before .sequence-at .ensures, sequence-fits (c .before .before .before .before .before .before .before .args .s .now) (c .before .before .before .before .before .loop .next))
 
 add-count-2 : tie.Need-add-count-2 Inv-loop μ-loop
 add-count-2 c = search needs
@@ -60,13 +60,13 @@ count-from-spec =
     Inv-loop
     μ-loop
     loop-holds
+    sequence-at-requires
+    returns
     is-block-requires
     add-next
     add-count
     loop-less
     loop-again
-    sequence-at-requires
-    returns
     add-next-2
     add-count-2
     loop-less-2

@@ -2,13 +2,13 @@ use borrow.Author.Needs.{needs}
 use Prim.Native.Nat.{_-_, _≤_}
 use mathlib.Core.Bool.{true}
 use mathlib.Core.Path.{_≡_}
-use Rattle.value.specs.Plain.{commonPlain}
+use Rattle.value.specs.Plain.{plainClass, commonIn}
 use Rattle.value.proofs.PlainUnits as law
 use Rattle.value.proofs.plain.common_run.Statement.{statement}
 use Rattle.value.proofs.plain.common_run.Tie as tie
 
 abbrev Inv-loop : tie.InvT-loop
-Inv-loop a at b beside limit n₀ n = (n ≤ limit) × (commonPlain a at b beside n ≡ true)
+Inv-loop a at b beside limit n₀ n = (n ≤ limit) × (commonIn plainClass a at b beside n ≡ true)
 
 abbrev μ-loop : tie.MeasureT-loop
 μ-loop a at b beside limit n₀ n = limit - n

@@ -16,8 +16,8 @@ abbrev μ-loop : tie.MeasureT-loop
 loop-holds : tie.Need-loop-holds Inv-loop μ-loop
 loop-holds c = refl
 
-skip-plain-requires : tie.Need-skip-plain-requires Inv-loop μ-loop
-skip-plain-requires c κs = search needs
+skip-common-requires : tie.Need-skip-common-requires Inv-loop μ-loop
+skip-common-requires c κs = search needs
 
 enum-told : tie.Need-enum-told Inv-loop μ-loop
 enum-told c = search needs
@@ -59,7 +59,7 @@ same-units-spec =
     Inv-loop
     μ-loop
     loop-holds
-    skip-plain-requires
+    skip-common-requires
     enum-told
     returns
     enum-known-first

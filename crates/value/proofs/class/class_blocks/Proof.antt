@@ -1,0 +1,62 @@
+use borrow.Author.Needs.{needs}
+use Prim.Native.Nat.{_-_, _≤_}
+use mathlib.Core.Bool.{true}
+use mathlib.Core.Path.{_≡_, refl}
+use Rattle.value.specs.Plain.{commonIn}
+use Rattle.value.proofs.PlainUnits as law
+use Rattle.value.proofs.class.class_blocks.Statement.{statement}
+use Rattle.value.proofs.class.class_blocks.Tie as tie
+
+abbrev Inv-loop : tie.InvT-loop
+Inv-loop class a at b beside limit n₀ n = (n ≤ limit) × (commonIn class a at b beside n ≡ true)
+
+abbrev μ-loop : tie.MeasureT-loop
+μ-loop class a at b beside limit n₀ n = limit - n
+
+loop-holds : tie.Need-loop-holds Inv-loop μ-loop
+unfolding commonIn
+loop-holds c = (search needs, refl)
+
+sub-loop : tie.Need-sub-loop Inv-loop μ-loop
+sub-loop c = search needs
+
+add-class-block : tie.Need-add-class-block Inv-loop μ-loop
+add-class-block c = search needs
+
+add-class-block-2 : tie.Need-add-class-block-2 Inv-loop μ-loop
+add-class-block-2 c = search needs
+
+class-block-requires : tie.Need-class-block-requires Inv-loop μ-loop
+class-block-requires c κs = search needs
+
+returns : tie.Need-returns Inv-loop μ-loop
+returns c = (search needs, search law.common-found)
+
+add-n : tie.Need-add-n Inv-loop μ-loop
+add-n c = search needs
+
+loop-less : tie.Need-loop-less Inv-loop μ-loop
+loop-less c = search needs
+
+loop-again : tie.Need-loop-again Inv-loop μ-loop
+loop-again c = (search needs, search law.block-more)
+
+returns-2 : tie.Need-returns-2 Inv-loop μ-loop
+returns-2 c = (search needs, search law.common-found)
+
+pub class-blocks-spec : {M : Type 1} → statement M
+class-blocks-spec =
+    tie.close
+    (tie.spec
+    Inv-loop
+    μ-loop
+    loop-holds
+    sub-loop
+    add-class-block
+    add-class-block-2
+    class-block-requires
+    returns
+    add-n
+    loop-less
+    loop-again
+    returns-2)
