@@ -1,12 +1,12 @@
 -- The matcher's state runs over a text as the definition does. Assumes nothing.
-use mathlib.Core.Path.{_≡_, refl, ap, ap₂, fun-ext, sym as inv, _∙_}
-use mathlib.Core.Bool.{Bool, true, false, not, _&&_, _||_}
+use mathlib.Core.Path.{_≡_, refl, ap, fun-ext, sym as inv, _∙_}
+use mathlib.Core.Bool.{Bool, true, false, not, _&&_, and-comm}
 use mathlib.Core.List.{List, [], _∷_}
-use Prim.Native.Nat.{ℕ, zero, suc, _<_, _^_}
+use Prim.Native.Nat.{ℕ, _<_, _^_}
 use native.Mathlib.Omega.{arith}
 use native.Mathlib.Decide.{ℕ-discrete}
 use borrow.Author.Tests.{eq-eqb, ne-eqb}
-use lib.Bits.{bitOr, bitAnd, or-lt, and-le-r}
+use lib.Bits.{bitAnd, or-lt, and-le-r}
 use lib.Count.{trailingZeros}
 use lib.Dec.{eqb}
 use lib.Pow.{pow-lt}
@@ -15,15 +15,16 @@ use Rattle.base.specs.Pick.{pick}
 use Rattle.base.proofs.Bits.{bit-and, bit-zero}
 use Rattle.pattern.specs.declared.fragment.Fragment.{Fragment}
 use Rattle.pattern.specs.Automaton.{keptIf, automatonOf}
-use Rattle.pattern.specs.Links.{anyBelow, leads}
+use Rattle.pattern.specs.Links.{leads}
 use Rattle.pattern.specs.Regex.{Regex, empty, sym, seq, alt, opt, plus}
-use Rattle.pattern.proofs.Linking.{any-same, least-in}
+use Rattle.pattern.proofs.Below.{any-none, any-true}
+use Rattle.pattern.proofs.Linking.{least-in}
 use Rattle.pattern.proofs.Listed.{Stands}
 use Rattle.matcher.specs.declared.live.Live.{Live}
-use Rattle.matcher.specs.Live.{initial, accepted}
+use Rattle.matcher.specs.Live.{initial, begun, accepted}
 use Rattle.matcher.specs.Run.{nullable, shift, withLive, run, likes}
 use Rattle.matcher.proofs.Decides.{none-runs}
-use Rattle.matcher.proofs.Steps.{Numbered, meets, comes, step-ok, final-ok, nullable-plain, and-swap, any-none, any-true}
+use Rattle.matcher.proofs.Steps.{Numbered, meets, comes, step-ok, final-ok, nullable-plain}
 
 unfoldable restBy : Bool → Regex ℕ → ℕ → List ℕ → Bool
 restBy true r S w = run (withLive (bit S) r) w
@@ -33,32 +34,39 @@ restBy false r S (c ∷ w) = run (shift true (withLive (bit S) r) c) w
 -- whether the rest of a text is matched, from a state on
 unfoldable pub restOf : Regex ℕ → Live → List ℕ → Bool
 unfolding restBy
-restOf r st w = restBy (st .begun) r (st .set) w
+restOf r st w = restBy (begun st) r (st .set) w
 
 -- the symbols that may come next are those to which a live one leads and, before the first character, the first ones
 abbrev pub Ready : Regex ℕ → Live → Type 0
-Ready r st = (i : ℕ) → bit (st .onward) i ≡ comes (st .set) (not (st .begun)) i (automatonOf r)
+Ready r st = (i : ℕ) → bit (st .onward) i ≡ comes (st .set) (not (begun st)) i (automatonOf r)
 
 -- ---- a step
 
-pub rest-step : (r : Regex ℕ) (m : ℕ) → Numbered r 0 m → (st next : Live) (c hit : ℕ) (w : List ℕ) → Stands r (bit hit) c → Ready r st → next .begun ≡ true
-    → next .set ≡ bitAnd (st .onward) hit → restOf r st (c ∷ w) ≡ restOf r next w
+pub rest-step : (r : Regex ℕ) (m : ℕ) → Numbered r 0 m → (st : Live) (c hit : ℕ) (w : List ℕ) → Stands r (bit hit) c → Ready r st
+    → restOf r st (c ∷ w) ≡ run (withLive (bit (bitAnd (st .onward) hit)) r) w
 unfolding restOf restBy run
-rest-step r m n st next c hit w stands ready begins moves =
-    opened (st .begun)
+rest-step r m n st c hit w stands ready =
+    opened (begun st)
     ∙ ap (λ (x : Regex Bool). run x w)
-    (step-ok (st .set) c (bit hit) r 0 m n stands (not (st .begun))
+    (step-ok (st .set) c (bit hit) r 0 m n stands (not (begun st))
     ∙ ap (λ (T : ℕ → Bool). withLive T r)
     (fun-ext (λ i.
-    and-swap (bit hit i) (comes (st .set) (not (st .begun)) i (automatonOf r))
+    and-comm (bit hit i) (comes (st .set) (not (begun st)) i (automatonOf r))
     ∙ ap (λ (b : Bool). b && bit hit i) (inv (ready i))
-    ∙ inv (bit-and (st .onward) hit i)
-    ∙ ap (λ (T : ℕ). bit T i) (inv moves))))
-    ∙ ap (λ (b : Bool). restBy b r (next .set) w) (inv begins)
+    ∙ inv (bit-and (st .onward) hit i))))
   where
     opened : (b : Bool) → restBy b r (st .set) (c ∷ w) ≡ run (shift (not b) (withLive (bit (st .set)) r) c) w
     opened true = refl
     opened false = refl
+
+-- where a symbol is live, a character has been read
+pub rest-live : (r : Regex ℕ) (st : Live) (w : List ℕ) → (st .set ≡ 0 → ⊥) → run (withLive (bit (st .set)) r) w ≡ restOf r st w
+unfolding restOf restBy
+rest-live r st w z = ap (λ (b : Bool). restBy (not b) r (st .set) w) (inv (ne-eqb (st .set) 0 z))
+
+-- where none is live any more, nothing is matched
+pub rest-dead : (r : Regex ℕ) (w : List ℕ) → run (withLive (bit 0) r) w ≡ false
+rest-dead r w = ap (λ (T : ℕ → Bool). run (withLive T r) w) (fun-ext (λ i. bit-zero i)) ∙ none-runs r w
 
 -- ---- the end
 
@@ -91,22 +99,19 @@ meets-and S T l = go (ℕ-discrete (bitAnd S T) 0)
         any-true 64 (trailingZeros 64 (bitAnd S T)) (λ j. bit S j && bit T j) (x .0) (at (trailingZeros 64 (bitAnd S T)) ∙ x .1)
         ∙ ap not (inv (ne-eqb (bitAnd S T) 0 e))
 
+pub rest-last : (r : Regex ℕ) (h : ℕ → Bool) (c : ℕ) → Stands r h c → (S : ℕ)
+    → run (withLive (bit S) r) [] ≡ not (eqb (bitAnd S (automatonOf r .sets .last)) 0)
+unfolding run
+rest-last r h c stands S = final-ok S c h r stands ∙ meets-and S (automatonOf r .sets .last) (last-below r h c stands)
+
 pub rest-end : (r : Regex ℕ) (h : ℕ → Bool) (c : ℕ) → Stands r h c → (whole : Fragment) → whole ≡ automatonOf r .sets → (st : Live) → restOf r st [] ≡ accepted whole st
-unfolding restOf restBy run
-rest-end r h c stands whole e st = go (st .begun) ∙ ap (λ (f : Fragment). accepted f st) (inv e)
+unfolding restOf restBy
+rest-end r h c stands whole e st = go (begun st) ∙ ap (λ (f : Fragment). accepted f st) (inv e)
   where
     go : (b : Bool)
         → restBy b r (st .set) [] ≡ pick b (not (eqb (bitAnd (st .set) (automatonOf r .sets .last)) 0)) (automatonOf r .sets .nullable)
-    go true = final-ok (st .set) c h r stands ∙ meets-and (st .set) (automatonOf r .sets .last) (last-below r h c stands)
+    go true = rest-last r h c stands (st .set)
     go false = nullable-plain r
-
--- where no symbol is live any more, nothing is matched
-pub rest-dead : (r : Regex ℕ) (st : Live) (w : List ℕ) → st .begun ≡ true → st .set ≡ 0 → restOf r st w ≡ false
-unfolding restOf restBy
-rest-dead r st w b z =
-    ap₂ (λ (x : Bool) (S : ℕ). restBy x r S w) b z
-    ∙ ap (λ (T : ℕ → Bool). run (withLive T r) w) (fun-ext (λ i. bit-zero i))
-    ∙ none-runs r w
 
 -- ---- the start
 

@@ -1,9 +1,8 @@
 -- A step of the automaton is a shift of the live symbols of a run. Assumes nothing.
 use mathlib.Core.Path.{_≡_, refl, ap, ap₂, sym as inv, _∙_}
-use mathlib.Core.Bool.{Bool, true, false, _&&_, _||_, and-true, or-false}
-use Prim.Native.Nat.{ℕ, zero, suc, _≤_, _<_, _+_, _-_, _^_}
+use mathlib.Core.Bool.{Bool, true, false, _&&_, _||_, and-true, or-false, or-true, and-assoc, and-comm, or-comm}
+use Prim.Native.Nat.{ℕ, _≤_, _<_, _+_, _^_}
 use native.Mathlib.Omega.{arith}
-use native.Mathlib.Decide.{ℕ-discrete}
 use lib.Bits.{bitOr}
 use Rattle.base.specs.Bits.{bit}
 use Rattle.base.proofs.Bits.{bit-or, bit-zero, bit-same, bit-other}
@@ -12,7 +11,7 @@ use Rattle.pattern.specs.Automaton.{keptIf, Automaton, over, inSequence, inAlte
 use Rattle.pattern.specs.Links.{anyBelow, leads}
 use Rattle.pattern.specs.Regex.{standsFor, Regex, empty, sym, seq, alt, opt, plus}
 use Rattle.pattern.proofs.Automata.{bit-kept, bit-join}
-use Rattle.pattern.proofs.Linking.{any-same}
+use Rattle.pattern.proofs.Below.{any-same, any-none, any-or, any-and, any-one}
 use Rattle.pattern.proofs.Listed.{Stands}
 use Rattle.matcher.specs.Run.{nullable, final, shift, withLive}
 
@@ -36,21 +35,13 @@ num-le (plus a) k m h = num-le a k m h
 
 -- ---- Booleans
 
-or-t : (b : Bool) → (b || true) ≡ true
-or-t true = refl
-or-t false = refl
-
-pub and-swap : (a b : Bool) → (a && b) ≡ (b && a)
-and-swap true b = inv (and-true b)
-and-swap false b = inv (and-false b)
-
 in-left : (xa la b fa na : Bool) → (xa || (b && fa)) ≡ (((xa || false) || (la && false)) || (b && (fa || (na && false))))
 in-left xa la b fa na = simp (and-false, or-false)
 
 in-right : (xr la fr b na : Bool) → (xr || (((b && na) || la) && fr)) ≡ (((false || xr) || (la && fr)) || (b && (false || (na && fr))))
 in-right true la fr b na = refl
 in-right false la false b na = simp and-false
-in-right false true true b na = simp or-t
+in-right false true true b na = simp or-true
 in-right false false true b na = simp (or-false, and-true)
 
 alt-left : (xa b fa : Bool) → (xa || (b && fa)) ≡ ((xa || false) || (b && (fa || false)))
@@ -59,55 +50,8 @@ alt-left xa b fa = simp or-false
 once-more : (x l f b : Bool) → (x || ((b || l) && f)) ≡ ((x || (l && f)) || (b && f))
 once-more true l f b = refl
 once-more false l false b = simp and-false
-once-more false l true true = simp or-t
+once-more false l true true = simp or-true
 once-more false l true false = simp (and-true, or-false)
-
--- ---- tests of the numbers below another
-
-pub any-none : (n : ℕ) (f : ℕ → Bool) → ((j : ℕ) → f j ≡ false) → anyBelow n f ≡ false
-unfolding anyBelow
-any-none zero f e = refl
-any-none (suc n) f e = rw (e n) (any-none n f e)
-
-swap-or : (x y u v : Bool) → ((x || y) || (u || v)) ≡ ((x || u) || (y || v))
-swap-or true y u v = refl
-swap-or false true true v = refl
-swap-or false true false v = refl
-swap-or false false u v = refl
-
-any-or : (n : ℕ) (f g : ℕ → Bool) → anyBelow n (λ j. f j || g j) ≡ (anyBelow n f || anyBelow n g)
-unfolding anyBelow
-any-or zero f g = refl
-any-or (suc n) f g = ap (λ (b : Bool). (f n || g n) || b) (any-or n f g) ∙ swap-or (f n) (g n) (anyBelow n f) (anyBelow n g)
-
-or-and : (x y b : Bool) → ((x && b) || (y && b)) ≡ ((x || y) && b)
-or-and x y true = rw (and-true x, and-true y, and-true (x || y))
-or-and x y false = rw (and-false x, and-false y, and-false (x || y))
-
-any-and : (n : ℕ) (f : ℕ → Bool) (b : Bool) → anyBelow n (λ j. f j && b) ≡ (anyBelow n f && b)
-unfolding anyBelow
-any-and zero f b = refl
-any-and (suc n) f b = ap (λ (x : Bool). (f n && b) || x) (any-and n f b) ∙ or-and (f n) (anyBelow n f) b
-
-any-one : (n k : ℕ) (f : ℕ → Bool) → k < n → ((j : ℕ) → (j ≡ k → ⊥) → f j ≡ false) → anyBelow n f ≡ f k
-unfolding anyBelow
-any-one zero k f h e = absurd (omega arith)
-any-one (suc n) k f h e = go (ℕ-discrete k n) (λ l. any-one n k f l e)
-  where
-    go : Dec (k ≡ n) → (k < n → anyBelow n f ≡ f k) → (f n || anyBelow n f) ≡ f k
-    go (yes q) one =
-        ap₂ _||_ (ap f (inv q)) (any-same n f (λ j. false) (λ j l. e j (λ d. omega (arith, q, d))) ∙ any-none n (λ j. false) (λ j. refl))
-        ∙ or-false (f k)
-    go (no q) one = ap₂ _||_ (e n (λ d. q (inv d))) (one (omega arith))
-
-pub any-true : (n k : ℕ) (f : ℕ → Bool) → k < n → f k ≡ true → anyBelow n f ≡ true
-unfolding anyBelow
-any-true zero k f h e = absurd (omega arith)
-any-true (suc n) k f h e = go (ℕ-discrete k n) (λ l. any-true n k f l e)
-  where
-    go : Dec (k ≡ n) → (k < n → anyBelow n f ≡ true) → (f n || anyBelow n f) ≡ true
-    go (yes q) more = ap (λ (b : Bool). b || anyBelow n f) (ap f (inv q) ∙ e)
-    go (no q) more = ap (λ (b : Bool). f n || b) (more (omega arith)) ∙ or-t (f n)
 
 -- ---- the symbols that the live ones lead to
 
@@ -119,10 +63,6 @@ and-or : (s x y : Bool) → (s && (x || y)) ≡ ((s && x) || (s && y))
 and-or true x y = refl
 and-or false x y = refl
 
-and-assoc : (x y z : Bool) → (x && (y && z)) ≡ ((x && y) && z)
-and-assoc true y z = refl
-and-assoc false y z = refl
-
 module _ (S i : ℕ) where
   leads-or : (f g : ℕ → ℕ) → leads (λ j. bitOr (f j) (g j)) S i ≡ (leads f S i || leads g S i)
   leads-or f g =
@@ -133,7 +73,7 @@ module _ (S i : ℕ) where
   leads-over : (last first : ℕ) → leads (over last first) S i ≡ (meets S last && bit first i)
   leads-over last first =
       any-same 64 (λ j. bit S j && bit (over last first j) i) (λ j. (bit S j && bit last j) && bit first i)
-      (λ j l. ap (λ (b : Bool). bit S j && b) (bit-kept (bit last j) first i) ∙ and-assoc (bit S j) (bit last j) (bit first i))
+      (λ j l. ap (λ (b : Bool). bit S j && b) (bit-kept (bit last j) first i) ∙ inv (and-assoc (bit S j) (bit last j) (bit first i)))
       ∙ any-and 64 (λ j. bit S j && bit last j) (bit first i)
 
   leads-none : (f : ℕ → ℕ) → ((j : ℕ) → bit (f j) i ≡ false) → leads f S i ≡ false
@@ -249,13 +189,7 @@ module _ (S c : ℕ) (h : ℕ → Bool) where
     where
       turn : (s x b y : Bool) → (s && (x || (b && y))) ≡ (((s && y) && b) || (s && x))
       turn false x b y = refl
-      turn true x true y = rw (and-true y) (swap x y)
-        where
-          swap : (x y : Bool) → (x || y) ≡ (y || x)
-          swap true true = refl
-          swap true false = refl
-          swap false true = refl
-          swap false false = refl
+      turn true x true y = rw (and-true y) (or-comm x y)
       turn true x false y = rw (and-false y) (or-false x)
 
   meets-or : (x y : ℕ) → meets S (bitOr x y) ≡ (meets S x || meets S y)
@@ -284,7 +218,7 @@ module _ (S c : ℕ) (h : ℕ → Bool) where
   step-ok empty k m n t b = refl
   step-ok (sym j p) k m n t b =
       ap (λ (x : Bool). sym x p)
-      (and-swap b (standsFor p c)
+      (and-comm b (standsFor p c)
       ∙ inv (ap₂ _&&_ (t .1) (ap₂ (λ (x y : Bool). x || (b && y)) (leads-none S j (λ i. 0) (λ i. bit-zero j)) (bit-same j) ∙ and-true b)))
   step-ok (seq a r) k m n t b =
       let A = automatonOf a in

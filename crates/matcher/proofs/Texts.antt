@@ -1,21 +1,20 @@
 -- One law for each way out of the matcher, and for a step of its loop. Assumes nothing.
-use mathlib.Core.Path.{_≡_, refl, ap, ap₂, subst, sym as inv, _∙_}
+use mathlib.Core.Path.{_≡_, refl, ap, subst, sym as inv, _∙_}
 use mathlib.Core.List.{List, [], _∷_}
 use mathlib.Core.Option.{Option, none, some}
-use mathlib.Core.Bool.{Bool, true, false, not, _&&_, _||_, false≢true, or-false}
-use Prim.Native.Nat.{ℕ, _≤_, _<_, _+_}
+use mathlib.Core.Bool.{Bool, false, not, _&&_, _||_, or-false}
+use Prim.Native.Nat.{ℕ, _≤_, _+_}
 use native.Mathlib.Omega.{arith}
 use lib.ListN.{length, getD, replicate}
 use lib.Bits.{bitOr, bitAnd, or-zero-l}
-use borrow.Author.Tests.{not-false}
+use lib.Dec.{eqb}
+use borrow.Author.Tests.{ne-eqb}
 use Rattle.base.specs.Bits.{bit}
-use Rattle.base.specs.Pick.{pick}
-use Rattle.base.specs.Part.{part}
 use Rattle.base.proofs.Bits.{bit-zero}
 use Rattle.unicode.specs.WellFormed.{sequenceAt}
-use Rattle.unicode.specs.Scalar.{scalarOf, scalarAt}
+use Rattle.unicode.specs.Scalar.{scalarAt}
 use Rattle.unicode.specs.Characters.{charactersFrom, characters}
-use Rattle.unicode.proofs.Characters.{characters-next, characters-stop, characters-end}
+use Rattle.unicode.proofs.Characters.{characters-next, characters-stop, characters-end, characters-fewer}
 use Rattle.pattern.specs.declared.fragment.Fragment.{Fragment}
 use Rattle.pattern.specs.declared.reader.PatternRead.{PatternRead}
 use Rattle.pattern.specs.declared.reader.PatternRead.the-variants.{BadPattern, Pattern}
@@ -25,44 +24,23 @@ use Rattle.pattern.specs.Automaton.{automatonOf}
 use Rattle.pattern.specs.Links.{leads, Gathers}
 use Rattle.pattern.specs.Hits.{Hits, standsAt}
 use Rattle.pattern.specs.Answers.{GivesPattern}
-use Rattle.pattern.proofs.Linking.{any-same}
+use Rattle.pattern.proofs.Below.{any-same, any-none}
 use Rattle.pattern.proofs.Listed.{Stands, pattern-lists}
 use Rattle.pattern.proofs.Parts.{no-pattern, is-pattern}
 use Rattle.matcher.specs.declared.live.Live.{Live}
 use Rattle.matcher.specs.declared.matcher.Matched.{Matched}
-use Rattle.matcher.specs.Live.{initial, accepted, Kept, Steps}
+use Rattle.matcher.specs.Live.{initial, accepted, nextSet, Kept, Steps}
 use Rattle.matcher.specs.Matcher.{likeOf, matchOf, Linked}
+use Rattle.matcher.specs.Recent.{Recalls}
 use Rattle.matcher.specs.Remembered.{Remembers}
-use Rattle.matcher.specs.Run.{likes}
+use Rattle.matcher.specs.Run.{withLive, run, likes}
 use Rattle.matcher.proofs.Memory.{zero-at}
 use Rattle.matcher.proofs.Numbering.{NumberedPattern, no-pattern as unnumbered, a-pattern, parse-numbered}
-use Rattle.matcher.proofs.Runs.{restOf, Ready, rest-step, rest-end, rest-dead, rest-start}
-use Rattle.matcher.proofs.Steps.{Numbered, comes, any-none}
-
--- ---- a step of the state
-
-module _ (links : List ℕ) where
-  none-gathers : Gathers links 0 0
-  none-gathers i = bit-zero i ∙ inv (any-none 64 (λ j. bit 0 j && bit (getD links j 0) i) (λ j. ap (λ (b : Bool). b && bit (getD links j 0) i) (bit-zero j)))
-
-  pub after-earlier : (st : Live) {set : ℕ} → Gathers links (st .earlier) (st .then) → set ≡ st .earlier → Gathers links set (st .then)
-  after-earlier st g e i = g i ∙ ap (λ (S : ℕ). leads (λ j. getD links j 0) S i) (inv e)
-
-  module _ (st : Live) (hit : ℕ) where
-    pub step-first : {onward : ℕ} → Gathers links (bitAnd (st .onward) hit) onward
-        → Steps links st hit (record { begun = true; set = bitAnd (st .onward) hit; onward = onward; earlier = 0; then = 0 })
-    step-first g = record { begins = refl; moves = refl; keeps = record { from-set = λ b. g; from-earlier = none-gathers } }
-
-    module _ (kept : Kept links st) (begun : not (st .begun) ≡ false) where
-      pub step-stays : bitAnd (st .onward) hit ≡ st .set → Steps links st hit st
-      step-stays e = record { begins = not-false (st .begun) begun; moves = inv e; keeps = kept }
-
-      pub step-changes : {onward : ℕ} → Gathers links (bitAnd (st .onward) hit) onward
-          → Steps links st hit (record { begun = true; set = bitAnd (st .onward) hit; onward = onward; earlier = st .set; then = st .onward })
-      step-changes g = record { begins = refl; moves = refl; keeps = record { from-set = λ b. g; from-earlier = kept .from-set (not-false (st .begun) begun) } }
+use Rattle.matcher.proofs.Runs.{restOf, Ready, rest-step, rest-live, rest-dead, rest-last, rest-end, rest-start}
+use Rattle.matcher.proofs.Steps.{Numbered}
 
 pub start-kept : (links : List ℕ) {st : Live} {first : ℕ} → st ≡ initial first → Kept links st
-start-kept links e = subst (Kept links) (inv e) (record { from-set = λ b. absurd (false≢true b); from-earlier = none-gathers links })
+start-kept links e = subst (Kept links) (inv e) (record { from-set = λ z. absurd (z refl); room = omega arith })
 
 -- ---- the pattern
 
@@ -106,12 +84,12 @@ module _ (p : List ℕ) (whole : Fragment) (links : List ℕ) (tables : Linked (
       ∙ ap (λ (b : Bool). b || bit (automatonOf (tables .regex) .sets .first) i)
       (inv (any-none 64 (λ j. bit 0 j && bit (automatonOf (tables .regex) .next j) i) (λ j. ap (λ (b : Bool). b && bit (automatonOf (tables .regex) .next j) i) (bit-zero j))))
 
-  ready-begun : (st : Live) → st .begun ≡ true → Gathers links (st .set) (st .onward) → Ready (tables .regex) st
-  ready-begun st b g i =
+  ready-begun : (st : Live) → (st .set ≡ 0 → ⊥) → Gathers links (st .set) (st .onward) → Ready (tables .regex) st
+  ready-begun st z g i =
       g i
       ∙ same-leads (st .set) i
       ∙ inv (or-false (leads (automatonOf (tables .regex) .next) (st .set) i))
-      ∙ ap (λ (x : Bool). leads (automatonOf (tables .regex) .next) (st .set) i || (not x && bit (automatonOf (tables .regex) .sets .first) i)) (inv b)
+      ∙ ap (λ (x : Bool). leads (automatonOf (tables .regex) .next) (st .set) i || (not (not x) && bit (automatonOf (tables .regex) .sets .first) i)) (inv (ne-eqb (st .set) 0 z))
 
   stands : (c hit : ℕ) → Hits p c hit → Stands (tables .regex) (bit hit) c
   stands c hit h = let x = pattern-lists p (tables .regex) (tables .is) in x .stands (bit hit) c (λ i l. h (x .symbols) (x .lists) i l)
@@ -119,11 +97,11 @@ module _ (p : List ℕ) (whole : Fragment) (links : List ℕ) (tables : Linked (
   liked : (w : List ℕ) → likes (tables .regex) w ≡ likeOf (parse p) w
   liked w = ap (λ (X : Option (Regex ℕ)). likeOf X w) (inv (tables .is))
 
-  stepped : (st next : Live) (c hit : ℕ) (w : List ℕ) → Ready (tables .regex) st → Hits p c hit → Steps links st hit next
-      → restOf (tables .regex) st (c ∷ w) ≡ restOf (tables .regex) next w
-  stepped st next c hit w ready h s =
+  stepped : (st : Live) (c hit : ℕ) (w : List ℕ) → Ready (tables .regex) st → Hits p c hit
+      → restOf (tables .regex) st (c ∷ w) ≡ run (withLive (bit (nextSet st hit)) (tables .regex)) w
+  stepped st c hit w ready h =
       let n = numbered (parse p) (tables .regex) (tables .is) (parse-numbered p) in
-      rest-step (tables .regex) (n .0) (n .1) st next c hit w (stands c hit h) ready (s .begins) (s .moves)
+      rest-step (tables .regex) (n .0) (n .1) st c hit w (stands c hit h) ready
 
   ended : (st : Live) → restOf (tables .regex) st [] ≡ accepted whole st
   ended st =
@@ -132,12 +110,13 @@ module _ (p : List ℕ) (whole : Fragment) (links : List ℕ) (tables : Linked (
 
   -- ---- a text of one character
 
-  pub match-one : (c : ℕ) {hit : ℕ} {a b : Live} {r : Bool} → Hits p c hit → a ≡ initial (whole .first) → Steps links a hit b → r ≡ accepted whole b → r ≡ likeOf (parse p) (c ∷ [])
-  match-one c {hit} {a} {b} h e s q =
-      q
-      ∙ inv (ended b)
-      ∙ inv (stepped a b c hit [] (ready-start e) h s)
-      ∙ ap (λ (x : Live). restOf (tables .regex) x (c ∷ [])) e
+  pub match-one : (c hit : ℕ) → Hits p c hit → {st : Live} → st ≡ initial (whole .first) → {set : ℕ} → set ≡ nextSet st hit
+      → not (eqb (bitAnd set (whole .last)) 0) ≡ likeOf (parse p) (c ∷ [])
+  match-one c hit h es e =
+      ap (λ (S : ℕ). not (eqb (bitAnd S (whole .last)) 0)) (e ∙ ap (λ (x : Live). nextSet x hit) es)
+      ∙ ap (λ (f : Fragment). not (eqb (bitAnd (bitAnd (whole .first) hit) (f .last)) 0)) (tables .sets)
+      ∙ inv (rest-last (tables .regex) (bit hit) c (stands c hit h) (bitAnd (whole .first) hit))
+      ∙ inv (stepped (initial (whole .first)) c hit [] (ready-start refl) h)
       ∙ rest-start (tables .regex) (whole .first) (c ∷ [])
       ∙ liked (c ∷ [])
 
@@ -162,23 +141,41 @@ module _ (p : List ℕ) (whole : Fragment) (links : List ℕ) (tables : Linked (
     }
 
     module _ {st : Live} {at count : ℕ} (here : Reached st at count) where
-      pub reached-next : {n v hit : ℕ} {q : List ℕ} {next : Live} → n ≡ sequenceAt s at → (n ≡ 0 → ⊥) → q ≡ part s at n → v ≡ scalarOf q → Hits p v hit → Steps links st hit next
-          → Reached next (at + n) (count + 1)
-      unfolding scalarAt
-      reached-next {n} {v} {hit} {q} {next} h z sequence scalar hits k =
-          let m = characters-next s at (λ e. z (h ∙ e)) in
-          let g : v ≡ scalarAt s at = scalar ∙ ap scalarOf (sequence ∙ ap (λ (j : ℕ). part s at j) h) in
-          let e : charactersFrom s at ≡ v ∷ charactersFrom s (at + n) = m ∙ (λ i. inv g i ∷ charactersFrom s (at + inv h i)) in
-          record {
-            decides =
-                inv (stepped st next v hit (charactersFrom s (at + n)) (here .ready) hits k)
-                ∙ ap (λ (l : List ℕ). restOf (tables .regex) st l) (inv e)
-                ∙ here .decides;
-            counted = omega (arith, here .counted, ap length e);
-            fewer = omega (arith, here .fewer, z);
-            ready = ready-begun next (k .begins) (k .keeps .from-set (k .begins));
-            kept = k .keeps;
-          }
+      module _ (n hit : ℕ) (h : n ≡ sequenceAt s at) (z : n ≡ 0 → ⊥) (hits : Hits p (scalarAt s at) hit) {set : ℕ} (is : set ≡ nextSet st hit) where
+        next-characters : charactersFrom s at ≡ scalarAt s at ∷ charactersFrom s (at + n)
+        next-characters = characters-next s at (λ e. z (h ∙ e)) ∙ ap (λ (j : ℕ). scalarAt s at ∷ charactersFrom s (at + j)) (inv h)
+
+        -- what is left decides, with the symbols live that might come and stand for the character
+        next-decides : run (withLive (bit set) (tables .regex)) (charactersFrom s (at + n)) ≡ likes (tables .regex) (characters s)
+        next-decides =
+            ap (λ (S : ℕ). run (withLive (bit S) (tables .regex)) (charactersFrom s (at + n))) is
+            ∙ inv (stepped st (scalarAt s at) hit (charactersFrom s (at + n)) (here .ready) hits)
+            ∙ ap (λ (l : List ℕ). restOf (tables .regex) st l) (inv next-characters)
+            ∙ here .decides
+
+        pub reached-next : {next : Live} → (set ≡ 0 → ⊥) → Steps links set next → Reached next (at + n) (count + 1)
+        reached-next {next} live k =
+            let some-live : next .set ≡ 0 → ⊥ = λ e. live (inv (k .moves) ∙ e) in
+            record {
+              decides =
+                  inv (rest-live (tables .regex) next (charactersFrom s (at + n)) some-live)
+                  ∙ ap (λ (S : ℕ). run (withLive (bit S) (tables .regex)) (charactersFrom s (at + n))) (k .moves)
+                  ∙ next-decides;
+              counted = omega (arith, here .counted, ap length next-characters);
+              fewer = omega (arith, here .fewer, z);
+              ready = ready-begun next some-live (k .keeps .from-set some-live);
+              kept = k .keeps;
+            }
+
+        pub match-dead : {r : ℕ} → set ≡ 0 → r ≡ length (charactersFrom s at) → _≡_ {A = Matched} (record { holds = false; characters = count + r }) (matchOf p s)
+        match-dead {r} none' e =
+            let x : false ≡ likeOf (parse p) (characters s) =
+            inv (rest-dead (tables .regex) (charactersFrom s (at + n)))
+            ∙ ap (λ (S : ℕ). run (withLive (bit S) (tables .regex)) (charactersFrom s (at + n))) (inv none')
+            ∙ next-decides
+            ∙ liked (characters s) in
+            let y : count + r ≡ length (characters s) = omega (arith, here .counted, e) in
+            λ i. record { holds = x i; characters = y i }
 
       match-at : {r : Bool} → charactersFrom s at ≡ [] → r ≡ accepted whole st → _≡_ {A = Matched} (record { holds = r; characters = count }) (matchOf p s)
       match-at {r} e q =
@@ -194,40 +191,38 @@ module _ (p : List ℕ) (whole : Fragment) (links : List ℕ) (tables : Linked (
       pub match-end : {r : Bool} → length s ≤ at → r ≡ accepted whole st → _≡_ {A = Matched} (record { holds = r; characters = count }) (matchOf p s)
       match-end h q = match-at (characters-end s at h) q
 
-      pub match-dead : {n : ℕ} → st .begun ≡ true → st .set ≡ 0 → n ≡ length (characters s)
-          → _≡_ {A = Matched} (record { holds = false; characters = n }) (matchOf p s)
-      match-dead {n} b z e =
-          let x : false ≡ likeOf (parse p) (characters s) = inv (rest-dead (tables .regex) st (charactersFrom s at) b z) ∙ here .decides ∙ liked (characters s) in
-          λ i. record { holds = x i; characters = e i }
-
 -- ---- the loop, with its tables and its memory
 
-pub record Matching (p : List ℕ) (whole : Fragment) (links s words : List ℕ) (st : Live) (at count : ℕ) : Type 0 where
+pub record Matching (p : List ℕ) (whole : Fragment) (links s words recent : List ℕ) (st : Live) (at count : ℕ) : Type 0 where
   pub tables : Linked (parse p) whole links
   pub reached : Reached p whole links tables s st at count
   pub memory : Remembers p words
+  pub recalls : Recalls links recent
 
-pub matching-start : (p : List ℕ) (whole : Fragment) (links s words : List ℕ) {st : Live} → Linked (parse p) whole links × Remembers p words
-    → st ≡ initial (whole .first) → Matching p whole links s words st 0 0
-matching-start p whole links s words t e = record { tables = t .0; reached = reached-start p whole links (t .0) s e; memory = t .1 }
+pub matching-start : (p : List ℕ) (whole : Fragment) (links s words recent : List ℕ) {st : Live} → Linked (parse p) whole links × Remembers p words × Recalls links recent
+    → st ≡ initial (whole .first) → Matching p whole links s words recent st 0 0
+matching-start p whole links s words recent t e = record { tables = t .0; reached = reached-start p whole links (t .0) s e; memory = t .1; recalls = t .2 }
 
-module _ {p : List ℕ} {whole : Fragment} {links s words : List ℕ} {st : Live} {at count : ℕ} (here : Matching p whole links s words st at count) where
-  pub matching-ready : (length links ≡ 64) × Kept links st
-  matching-ready = (here .tables .all, here .reached .kept)
+module _ {p : List ℕ} {whole : Fragment} {links s words recent : List ℕ} {st : Live} {at count : ℕ} (here : Matching p whole links s words recent st at count) where
+  -- no more characters are counted than there are bytes
+  pub matching-fewer : {r : ℕ} → r ≡ length (charactersFrom s at) → count + r ≤ length s
+  matching-fewer e = omega (arith, here .reached .counted, characters-fewer s 0, e)
 
-  pub matching-next : {n v hit : ℕ} {q more : List ℕ} {next : Live} → n ≡ sequenceAt s at → (n ≡ 0 → ⊥) → q ≡ part s at n → v ≡ scalarOf q → Hits p v hit × Remembers p more
-      → Steps links st hit next → Matching p whole links s more next (at + n) (count + 1)
-  matching-next h z sequence scalar hits k =
-      record { tables = here .tables; reached = reached-next p whole links (here .tables) s (here .reached) h z sequence scalar (hits .0) k; memory = hits .1 }
+  module _ (n hit : ℕ) (h : n ≡ sequenceAt s at) (z : n ≡ 0 → ⊥) {more : List ℕ} (hits : Hits p (scalarAt s at) hit × Remembers p more) {set : ℕ} (is : set ≡ nextSet st hit) where
+    pub matching-next : {next : Live} {later : List ℕ} → (set ≡ 0 → ⊥) → Steps links set next × Recalls links later
+        → Matching p whole links s more later next (at + n) (count + 1)
+    matching-next live k = record {
+      tables = here .tables;
+      reached = reached-next p whole links (here .tables) s (here .reached) n hit h z (hits .0) is live (k .0);
+      memory = hits .1;
+      recalls = k .1;
+    }
+
+    pub matched-dead : {r : ℕ} → set ≡ 0 → r ≡ length (charactersFrom s at) → _≡_ {A = Matched} (record { holds = false; characters = count + r }) (matchOf p s)
+    matched-dead none' e = match-dead p whole links (here .tables) s (here .reached) n hit h z (hits .0) is none' e
 
   pub matched-stop : {n : ℕ} {r : Bool} → n ≡ sequenceAt s at → n ≡ 0 → r ≡ accepted whole st → _≡_ {A = Matched} (record { holds = r; characters = count }) (matchOf p s)
   matched-stop h z q = match-stop p whole links (here .tables) s (here .reached) h z q
 
   pub matched-end : {r : Bool} → length s ≤ at → r ≡ accepted whole st → _≡_ {A = Matched} (record { holds = r; characters = count }) (matchOf p s)
   matched-end h q = match-end p whole links (here .tables) s (here .reached) h q
-
-  -- no symbol is live after a step
-  pub matched-dead : {n v hit count' : ℕ} {q more : List ℕ} {next : Live} → n ≡ sequenceAt s at → (n ≡ 0 → ⊥) → q ≡ part s at n → v ≡ scalarOf q → Hits p v hit × Remembers p more
-      → Steps links st hit next → next .set ≡ 0 → count' ≡ length (characters s) → _≡_ {A = Matched} (record { holds = false; characters = count' }) (matchOf p s)
-  matched-dead h z sequence scalar found k none' e =
-      let m = matching-next h z sequence scalar found k in match-dead p whole links (m .tables) s (m .reached) (k .begins) none' e

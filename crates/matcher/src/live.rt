@@ -1,18 +1,19 @@
 // The pattern's live symbols: the state goes in by value, and a step hands back the next one.
 ghost use mathlib.Core.Path.{_≡_};
 ghost use lib.ListN.{length};
-ghost use Rattle.pattern.specs.Links.{Gathers};
-ghost use Rattle.matcher.specs.Live.{initial, accepted, Kept, Steps};
+ghost use Rattle.matcher.specs.Live.{initial, nextSet, accepted, Kept, Steps};
+ghost use Rattle.matcher.specs.Recent.{Recalls};
+use crate::recent::CLOSED;
+use crate::recent::PLACES;
+use crate::recent::SIMPLE;
+use crate::recent::recent_place;
 use pattern::fragment::Fragment;
 use pattern::links::gather;
 
-// A text mostly goes round in one set or between two: the set before the last change is kept, so that what may come next is rarely gathered anew.
 pub struct Live {
-    pub begun: bool, // a character has been read
-    pub set: u64, // the live symbols
+    pub set: u64, // the live symbols; none before the first character
     pub onward: u64, // the symbols that may come next
-    pub earlier: u64, // those that were live before
-    pub then: u64, // the symbols that might come after them
+    pub place: usize, // where the next set that is gathered is remembered
 }
 
 impl Live {
@@ -21,57 +22,51 @@ impl Live {
         ensures { λ r. ⌜ r ≡ initial first ⌝ }
     {
         Live {
-            begun: false,
             set: 0,
             onward: first,
-            earlier: 0,
-            then: 0,
+            place: 0,
         }
     }
 
-    // After a character for which the symbols of `hit` stand.
-    pub fn step(self, links: &[u64], hit: u64) -> Live
-        requires { ⌜ (length (now links) ≡ 64) × Kept (now links) self ⌝ }
-        ensures { λ r. ⌜ Steps (now (links .entry)) self hit r ⌝ }
+    // The symbols that are live after a character for which those of `hit` stand.
+    pub fn next_set(self, hit: u64) -> u64
+        ensures { λ r. ⌜ r ≡ nextSet self hit ⌝ }
     {
-        let set = self.onward & hit;
-        if !self.begun {
-            return Live {
-                begun: true,
-                set,
-                onward: gather(links, set),
-                earlier: 0,
-                then: 0,
-            };
-        }
+        self.onward & hit
+    }
+
+    // After a character with which the symbols of `set` are live.
+    pub fn step(self, links: &[u64], recent: &mut [u64], set: u64) -> Live
+        requires { ⌜ (length (now links) ≡ 64) × Recalls (now links) (now recent) × Kept (now links) self ⌝ }
+        ensures { λ r. ⌜ Steps (now (links .entry)) set r × Recalls (now (links .entry)) (now (recent .exit)) ⌝ }
+    {
         if set == self.set {
             return self;
         }
+        let place = self.place;
+        let k = recent_place(recent, set);
+        if k < PLACES {
+            return Live {
+                set,
+                onward: recent[PLACES + k],
+                place,
+            };
+        }
+        let onward = gather(links, recent[SIMPLE], recent[CLOSED], set);
+        recent[place] = set;
+        recent[PLACES + place] = onward;
         Live {
-            begun: true,
             set,
-            onward: self.after(links, set),
-            earlier: self.set,
-            then: self.onward,
+            onward,
+            place: (place + 1) % PLACES,
         }
-    }
-
-    // What may come after a set, the earlier one or another.
-    fn after(self, links: &[u64], set: u64) -> u64
-        requires { ⌜ (length (now links) ≡ 64) × Gathers (now links) (self .earlier) (self .then) ⌝ }
-        ensures { λ r. ⌜ Gathers (now (links .entry)) set r ⌝ }
-    {
-        if set == self.earlier {
-            return self.then;
-        }
-        gather(links, set)
     }
 
     // Whether the text may end here.
     pub fn accepts(self, whole: Fragment) -> bool
         ensures { λ r. ⌜ r ≡ accepted whole self ⌝ }
     {
-        if self.begun {
+        if self.set != 0 {
             return self.set & whole.last != 0;
         }
         whole.nullable

@@ -3,7 +3,9 @@ pub mod Sets
 pub mod Symbols
 pub mod Leaves
 pub mod Automata
+pub mod Below
 pub mod Linking
+pub mod Gathering
 pub mod Parts
 pub mod Sequences
 pub mod Sound

@@ -1,21 +1,21 @@
 -- One law for each way out of the functions over sets of symbols and links. Assumes nothing.
-use mathlib.Core.Path.{_≡_, refl, ap, ap₂, subst, sym as inv, _∙_}
-use mathlib.Core.Bool.{Bool, true, false, _&&_, _||_, or-assoc as or-of-or}
+use mathlib.Core.Path.{_≡_, refl, ap, ap₂, sym as inv, _∙_}
+use mathlib.Core.Bool.{Bool, true, false, not, _&&_}
 use mathlib.Core.List.{List}
-use Prim.Native.Nat.{ℕ, zero, suc, _≤_, _<_, _+_, _*_, _/_, _%_, _^_}
+use Prim.Native.Nat.{ℕ, zero, suc, _<_, _*_, _/_, _%_, _^_}
 use native.Mathlib.Omega.{arith}
 use native.Mathlib.Decide.{ℕ-discrete}
 use native.Mathlib.Nat.{one-mul, mod-lt}
 use lib.Pow.{shl-exact, pow-pos}
 use lib.Count.{under, trailingZeros}
-use lib.Bits.{bitOr, bitAnd, bitXor, xor-add-and, or-comm, or-zero-r}
+use lib.Bits.{bitOr, bitAnd, bitXor, xor-add-and, or-zero-r}
 use lib.Dec.{eqb}
 use lib.ListN.{length, getD, set, length-set}
 use lib.Seq.{getD-set-same, getD-set-other}
 use Rattle.base.specs.Bits.{bit}
-use Rattle.base.proofs.Bits.{bit-or, bit-and, bit-xor, either, bit-zero, bit-same, bit-other, half-bit, digit-zero, same-members, or-assoc}
+use Rattle.base.proofs.Bits.{bit-and, bit-xor, either, bit-zero, bit-same, bit-other, half-bit, digit-zero, same-members}
 use Rattle.pattern.specs.Automaton.{keptIf, over}
-use Rattle.pattern.specs.Links.{Without, Adds, anyBelow, leads, Gathers}
+use Rattle.pattern.specs.Links.{Without, Outside, Adds}
 
 -- ---- the least member
 
@@ -68,6 +68,27 @@ module _ (S k : ℕ) (member : bit S k ≡ true) where
       same true = refl
       same false = refl
 
+-- ---- outside another set
+
+module _ (S T : ℕ) where
+  inner : bitAnd S (bitAnd S T) ≡ bitAnd S T
+  inner = same-members (bitAnd S (bitAnd S T)) (bitAnd S T) (λ i. bit-and S (bitAnd S T) i ∙ ap (λ (b : Bool). bit S i && b) (bit-and S T i) ∙ twice (bit S i) (bit T i) ∙ inv (bit-and S T i))
+    where
+      twice : (s t : Bool) → (s && (s && t)) ≡ (s && t)
+      twice true t = refl
+      twice false t = refl
+
+  pub outside-of : Outside S T (bitXor S (bitAnd S T))
+  outside-of = record {
+    fewer = omega (arith, xor-add-and S (bitAnd S T), inner);
+    members = λ i. bit-xor S (bitAnd S T) i ∙ ap (either (bit S i)) (bit-and S T i) ∙ apart (bit S i) (bit T i);
+  }
+    where
+      apart : (s t : Bool) → either s (s && t) ≡ (s && not t)
+      apart true true = refl
+      apart true false = refl
+      apart false t = refl
+
 -- ---- links put behind symbols, one symbol after the other
 
 -- where the loop stands: what is left of the set is still to be linked
@@ -110,68 +131,3 @@ module _ (last first : ℕ) (before : List ℕ) where
           ∙ here .each j h;
       all = here .all;
     }
-
--- ---- the symbols that may follow one of a set
-
-turn : (x y z : Bool) → (x || (y || z)) ≡ (y || (x || z))
-turn true true z = refl
-turn true false z = refl
-turn false y z = refl
-
-pub any-same : (n : ℕ) (f g : ℕ → Bool) → ((j : ℕ) → j < n → f j ≡ g j) → anyBelow n f ≡ anyBelow n g
-unfolding anyBelow
-any-same zero f g e = refl
-any-same (suc n) f g e = ap₂ _||_ (e n (omega arith)) (any-same n f g (λ j h. e j (omega arith)))
-
--- one number is tried apart from the others
-any-but : (n k : ℕ) (f g : ℕ → Bool) → k < n → g k ≡ false → ((j : ℕ) → (j ≡ k → ⊥) → g j ≡ f j) → anyBelow n f ≡ (f k || anyBelow n g)
-unfolding anyBelow
-any-but zero k f g h z e = absurd (omega arith)
-any-but (suc n) k f g h z e = go (ℕ-discrete k n) (λ l. any-but n k f g l z e)
-  where
-    go : Dec (k ≡ n) → (k < n → anyBelow n f ≡ (f k || anyBelow n g)) → (f n || anyBelow n f) ≡ (f k || (g n || anyBelow n g))
-    go (yes q) but =
-        ap₂ _||_ (ap f (inv q)) (any-same n f g (λ j l. inv (e j (omega (arith, q)))))
-        ∙ ap (λ (b : Bool). f k || (b || anyBelow n g)) (inv (ap g (inv q) ∙ z))
-    go (no q) but =
-        ap₂ _||_ (inv (e n (λ r. q (inv r)))) (but (omega arith))
-        ∙ turn (g n) (f k) (anyBelow n g)
-
--- where the loop stands: what is found, and what the rest leads to, is what the set leads to
-pub record Gathering (links : List ℕ) (S left found : ℕ) : Type 0 where
-  pub leading : (i : ℕ) → (bit found i || leads (λ j. getD links j 0) left i) ≡ leads (λ j. getD links j 0) S i
-
-module _ (links : List ℕ) (S : ℕ) where
-  pub gathering-start : Gathering links S S 0
-  gathering-start = record { leading = λ i. ap (λ (b : Bool). b || leads (λ j. getD links j 0) S i) (bit-zero i) }
-
-  module _ {left found : ℕ} (here : Gathering links S left found) where
-    pub gathering-next : {k rest : ℕ} → (k < 64) × (bit left k ≡ true) → Without left k rest → Gathering links S rest (bitOr found (getD links k 0))
-    gathering-next {k} {rest} member w = record {
-      leading = λ i.
-          ap (λ (b : Bool). b || leads (λ j. getD links j 0) rest i) (bit-or found (getD links k 0) i)
-          ∙ or-of-or (bit found i) (bit (getD links k 0) i) (leads (λ j. getD links j 0) rest i)
-          ∙ ap (λ (b : Bool). bit found i || b)
-          (ap (λ (b : Bool). (b && bit (getD links k 0) i) || leads (λ j. getD links j 0) rest i) (inv (member .1))
-          ∙ inv
-          (any-but 64 k (λ j. bit left j && bit (getD links j 0) i) (λ j. bit rest j && bit (getD links j 0) i) (member .0)
-          (ap (λ (b : Bool). b && bit (getD links k 0) i) (w .gone))
-          (λ j d. ap (λ (b : Bool). b && bit (getD links j 0) i) (w .others j d))))
-          ∙ here .leading i;
-    }
-
-    pub gathering-end : left ≡ 0 → Gathers links S found
-    unfolding anyBelow
-    gathering-end z i =
-        inv (or-false (bit found i))
-        ∙ ap (λ (b : Bool). bit found i || b) (inv (none i 64))
-        ∙ ap (λ (n : ℕ). bit found i || leads (λ j. getD links j 0) n i) (inv z)
-        ∙ here .leading i
-      where
-        or-false : (b : Bool) → (b || false) ≡ b
-        or-false true = refl
-        or-false false = refl
-
-        none : (i n : ℕ) → anyBelow n (λ j. bit 0 j && bit (getD links j 0) i) ≡ false
-        none i zero = refl
-        none i (suc n) = rw (bit-zero n) (none i n)

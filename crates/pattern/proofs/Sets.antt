@@ -1,7 +1,7 @@
 -- One law for each way out of the readers of a set's members. Assumes nothing.
 use mathlib.Core.Path.{_≡_, refl, subst}
 use mathlib.Core.List.{List, [], _∷_}
-use mathlib.Core.Bool.{Bool, true, false, not, _||_, _&&_}
+use mathlib.Core.Bool.{Bool, true, false, not, _||_, _&&_, or-assoc}
 use Prim.Native.Nat.{ℕ, zero, suc, _≤_, _<_, _+_, _-_}
 use native.Mathlib.Omega.{arith}
 use borrow.Author.Tests.{lt-ltb, le-ltb, eq-eqb, ne-eqb, not-true, not-false}
@@ -157,10 +157,6 @@ range-further s at {e = e} g q =
 
 -- ---- the members
 
-or-assoc : (a b d : Bool) → (a || (b || d)) ≡ ((a || b) || d)
-or-assoc true b d = refl
-or-assoc false b d = refl
-
 or-none : (a b : Bool) → (a || (b || false)) ≡ (a || b)
 or-none true b = refl
 or-none false true = refl
@@ -170,7 +166,7 @@ add : (s : List ℕ) (c : ℕ) (hit : Bool) (low high : ℕ) (y : SymbolRead) (X
     → GivesMembers s c (hit || (leb low c && leb c high)) y X → GivesMembers s c hit y (addRange (record { low = low; high = high }) X)
 unfolding inRanges within
 add s c hit low high y malformed bad = bad
-add s c hit low high y (front rs u) good = rw (← or-assoc hit (leb low c && leb c high) (inRanges rs c)) good
+add s c hit low high y (front rs u) good = rw (or-assoc hit (leb low c && leb c high) (inRanges rs c)) good
 
 module _ (s : List ℕ) (at c : ℕ) (hit : Bool) {r : RangeRead} (range-read : GivesRange s r (range (drop at s))) where
   pub members-bad : r ≡ BadRange → ReadsMembers s at c hit BadSymbol

@@ -1,5 +1,4 @@
 use Rattle.matcher.proofs.Texts as law
-use Rattle.pattern.proofs.Parts.{pattern-all}
 use borrow.Author.Needs.{needs}
 use Rattle.matcher.proofs.matcher.match_one.Statement.{statement}
 use Rattle.matcher.proofs.matcher.match_one.Tie as tie
@@ -16,26 +15,20 @@ enum-told c = search needs
 enum-known-whole : tie.Need-enum-known-whole
 enum-known-whole c = search needs
 
-hits-of-requires : tie.Need-hits-of-requires
-hits-of-requires c κs = search needs
-
 start-requires : tie.Need-start-requires
 start-requires c κs = search needs
 
-slice-aggregate-step : tie.Need-slice-aggregate-step
-slice-aggregate-step c = search needs
+hits-of-requires : tie.Need-hits-of-requires
+hits-of-requires c κs = search needs
 
-step-requires : tie.Need-step-requires
-step-requires c κs = (pattern-all _ _ _ _ (c .before .before .before .before .before .before .before .read-pattern .ensures), law.start-kept _ (c .before .start .ensures))
-
-accepts-requires : tie.Need-accepts-requires
-accepts-requires c κs = search needs
+next-set-requires : tie.Need-next-set-requires
+next-set-requires c κs = search needs
 
 returns : tie.Need-returns
 returns c = search law.one-none
 
 returns-2 : tie.Need-returns-2
-returns-2 c = search (law.match-one, law.linked)
+returns-2 c = law.match-one _ _ _ (law.linked _ (c .before .before .before .before .before .before .before .before .read-pattern .ensures) (c .before .before .before .before .before .whole .given .1)) _ _ (c .before .before .hits-of .ensures) (c .before .before .before .start .ensures) (c .before .next-set .ensures)
 
 pub match-one-spec : {M : Type 1} → statement M
 match-one-spec =
@@ -45,10 +38,8 @@ match-one-spec =
     read-pattern-requires
     enum-told
     enum-known-whole
-    hits-of-requires
     start-requires
-    slice-aggregate-step
-    step-requires
-    accepts-requires
+    hits-of-requires
+    next-set-requires
     returns
     returns-2)
