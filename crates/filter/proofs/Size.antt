@@ -38,7 +38,7 @@ use Rattle.predicate.proofs.Bounds.{steps-bounded, body-few, text-few, spot-few
 use Rattle.judge.specs.Meaning as meaning
 use Rattle.judge.specs.Meaning.{Read, unlike, faulty, elementOf, indexedBy, Left, misshapen, leftScalar, leftArray, Right, missing, unindexable, Meant, fails, means, both, operatorOf, isNegated, likeText, meet, meantBy, meantAs}
 use Rattle.judge.proofs.Sides.{element-start}
-use Rattle.judge.proofs.Meeting.{scalar-of, array-of}
+use Rattle.judge.proofs.RightSides.{scalar-of, array-of}
 use Rattle.judge.proofs.Named.{Placed}
 use Rattle.filter.specs.Meaning.{stepsOf, readsOf}
 

@@ -5,37 +5,21 @@ use mathlib.Core.List.{List}
 use mathlib.Core.Bool.{Bool, true, false, not, _&&_, _||_}
 use mathlib.Core.Option.{Option, none, some}
 use native.Mathlib.Omega.{arith}
-use lib.Dec.{eqb}
 use borrow.Author.Tests.{not-true, not-false}
 use Rattle.base.specs.Pick.{pick}
 use Rattle.base.proofs.Says.{and-both}
 use Rattle.base.specs.Part.{part}
-use Rattle.record.specs.Record.{recordAt, records}
-use Rattle.record.specs.Kind.{kindOf}
-use Rattle.record.specs.declared.read.RecordAt.{RecordAt}
-use Rattle.record.specs.declared.read.RecordAt.the-variants as record-at
 use Rattle.record.specs.declared.kind.Family.{Family}
 use Rattle.record.specs.declared.kind.ValueType.{ValueType}
-use Rattle.record.specs.declared.kind.Kind.{Kind}
-use Rattle.record.specs.declared.kind.Kind.the-variants.{Unknown, Scalar, Array}
 use Rattle.token.specs.declared.Token.{Token}
-use Rattle.syntax.specs.declared.path.Index.{Index}
-use Rattle.syntax.specs.declared.path.Index.the-variants.{Whole, At}
-use Rattle.instance.specs.Value as value
-use Rattle.instance.specs.Value.{ScalarValue, valueAt}
-use Rattle.instance.specs.Noted.{placeNoted}
-use Rattle.value.specs.Read.{valueIn, valueInRecord, asValue}
-use Rattle.value.proofs.Reading.{scalar-property}
+use Rattle.instance.specs.Value.{ScalarValue}
 use Rattle.operand.specs.declared.cause.Cause.{Cause}
 use Rattle.operand.specs.declared.cause.Cause.the-variants as cause
-use Rattle.operand.specs.declared.index.IndexRead.the-variants.{TooLarge}
-use Rattle.place.specs.declared.Source.the-variants as source
 use Rattle.place.specs.declared.Spot.{Spot}
 use Rattle.place.specs.declared.Located.{Located}
 use Rattle.place.specs.declared.Body.{Body}
-use Rattle.place.specs.declared.Body.the-variants as body
 use Rattle.predicate.specs.Test as test
-use Rattle.place.specs.Place.{spotValue, locatedValue, bodyOf, bodyAt, bodyValue, literalValues}
+use Rattle.place.specs.Place.{spotValue, locatedValue, bodyValue, literalValues}
 use Rattle.judge.specs.declared.left.SpotRead.{SpotRead}
 use Rattle.judge.specs.declared.left.SpotRead.the-variants as spot
 use Rattle.judge.specs.declared.left.Left as code-left
@@ -45,8 +29,8 @@ use Rattle.judge.specs.declared.right.ItemRead.the-variants as item
 use Rattle.judge.specs.declared.right.ListRead.{ListRead}
 use Rattle.judge.specs.declared.right.ListRead.the-variants as list
 use Rattle.judge.specs.Meaning as meaning
-use Rattle.judge.specs.Meaning.{Read, unlike, faulty, asScalar, asArray, elements, ofRow}
-use Rattle.judge.specs.Answers.{spotRead, leftSeen, itemRead, listRead, IndexedIn}
+use Rattle.judge.specs.Meaning.{Read, unlike, faulty, elements, ofRow}
+use Rattle.judge.specs.Answers.{spotRead, leftSeen, itemRead, listRead}
 use Rattle.record.specs.Kind.{sameRow}
 use Rattle.record.specs.declared.kind.Family.the-variants as family
 use Rattle.pattern.specs.Regex.{Regex}
@@ -68,14 +52,7 @@ use Rattle.judge.specs.declared.meet.Settled.{Settled}
 use Rattle.judge.specs.declared.meet.Settled.the-variants as settling
 use Rattle.judge.specs.Meaning.{Right, means, both, meet, operatorOf, isNegated, ordered, suits, notNull, patternBy, likeText}
 use Rattle.judge.specs.Answers.{judged, settledOne, settled}
-use Rattle.table.specs.declared.lookup.Found.{Found}
-use Rattle.table.specs.declared.lookup.Found.the-variants as found
-use Rattle.syntax.specs.declared.path.Path as path
-use Rattle.operand.specs.Named.{named}
-use Rattle.judge.specs.Meaning.{rightScalar, rightArray, rightKind, rightProperty}
-use Rattle.judge.specs.Environment.{entryNoted}
 use Rattle.judge.proofs.Sides.{elements-good}
-use Rattle.judge.proofs.Named.{entry-there}
 
 -- ---- src/meet.rt
 pub ordered-by : (f : Family) {a b c : Bool} → a ≡ sameRow f family.Integer → b ≡ sameRow f family.Real → c ≡ sameRow f family.Datetime → a || (b || c) ≡ ordered f
@@ -331,87 +308,3 @@ module _ (n : Bool) (start : ℕ) (of : ValueType) (q i : List ℕ) (x : SpotRea
               → Tells y ≡ judged (both start (sameRow (of .family) family.Text) (spotRead of q i x) (patternBy (t .start) r) (likeText n))
           go none f k = let z : _≡_ {A = ℕ} 0 1 = cc in absurd (omega arith)
           go (some r) f k = rw (textual, e) (ap Tells (of-like y q t n (spotValue of q i s) ly r f))
-
--- ---- src/property.rt: a property on the right, by its kind
--- the value of a scalar property is that of its record, the value of an array that of its body
-as-scalar : (x : Option ScalarValue) → asScalar (asValue x) ≡ x
-unfolding asScalar
-as-scalar none = refl
-as-scalar (some x) = refl
-
-pub scalar-of : (kind : ℕ) (i : List ℕ) (place : ℕ) (t : ValueType) → kindOf kind ≡ Scalar t → asScalar (valueAt kind i place) ≡ valueInRecord t i place
-scalar-of kind i place t e = ap asScalar (scalar-property kind i place t e) ∙ as-scalar (valueInRecord t i place)
-
-pub array-of : (kind : ℕ) (i : List ℕ) (place : ℕ) (element : ℕ) (t : ValueType) → kindOf kind ≡ Array element t → asArray (valueAt kind i place) ≡ bodyValue t i (bodyAt i place)
-unfolding valueAt bodyAt asArray bodyValue
-array-of kind i place element t e = go (recordAt i place)
-  where
-    by : (b : Bool) (start len : ℕ)
-        → asArray (pick b value.null (value.array (value.elements t (part i start len) (records (part i start len) 0)))) ≡ bodyValue t i (pick b body.Null (body.At start len))
-    by true start len = refl
-    by false start len = refl
-
-    go : (r : RecordAt) → asArray (value.valueIn kind i r) ≡ bodyValue t i (bodyOf r)
-    go (record-at.Whole k start len next) = rw e (by (eqb k 0) start len)
-    go record-at.Broken = refl
-    go record-at.End = refl
-
-module _ (a : LeftSide) (o : Operation) (f : Family) (l : meaning.Left) where
-  abbrev Beside : Right → Judged → Type 0
-  Beside r j = j ≡ judged (meet a o f l r)
-
-  -- a scalar in a record, with or without an index
-  module _ (q i : List ℕ) (with : ValueType) (index : Index) (place : ℕ) where
-    pub right-one : index ≡ Whole → {s : Bool} → s ≡ sameRow f (with .family) → (y : ItemRead)
-        → itemRead q i y ≡ ofRow s (spotRead with q i (spot.At (record { source = source.Instance; place = place })))
-        → {j : Judged} → Beside (meaning.Right.one false (itemRead q i y)) j → Beside (rightScalar (sameRow f (with .family)) index (valueInRecord with i place)) j
-    unfolding rightScalar spotRead
-    right-one e es y ey h = h ∙ ap (λ (r : Read (Option ScalarValue)). judged (meet a o f l (meaning.Right.one false r))) ey ∙ rw (e, es) refl
-
-    pub right-indexed : (t : Token) → index ≡ At t
-        → Beside (rightScalar (sameRow f (with .family)) index (valueInRecord with i place)) (Fails cause.Shape (a .start))
-    unfolding rightScalar judged meet
-    right-indexed t e = rw e refl
-
-    module _ {b : Body} (eb : b ≡ bodyAt i place) {s : Bool} (es : s ≡ sameRow f (with .family)) where
-      pub right-whole : index ≡ Whole → {j : Judged} → Beside (meaning.Right.many (ofRow s (meaning.value (bodyValue with i b)))) j
-          → Beside (rightArray q (sameRow f (with .family)) index (bodyValue with i (bodyAt i place))) j
-      unfolding rightArray
-      right-whole e h = h ∙ rw (e, es, eb) refl
-
-      pub right-element : (t : Token) → index ≡ At t → (x : SpotRead) → IndexedIn q i t b x → (y : ItemRead) → itemRead q i y ≡ ofRow s (spotRead with q i x)
-          → {j : Judged} → Beside (meaning.Right.one false (itemRead q i y)) j
-          → Beside (rightArray q (sameRow f (with .family)) index (bodyValue with i (bodyAt i place))) j
-      unfolding rightArray
-      right-element t e x ex y ey h =
-          h ∙ ap (λ (r : Read (Option ScalarValue)). judged (meet a o f l (meaning.Right.one false r))) (ey ∙ ap (ofRow s) (ex with))
-          ∙ rw (e, es, eb) refl
-
-  module _ (q i : List ℕ) (name : ℕ) (index : Index) (kind place : ℕ) {k : Kind} (ek : k ≡ kindOf kind) where
-    pub kind-unknown : k ≡ Unknown → Beside (rightKind f q name index (kindOf kind) (valueAt kind i place)) (Fails cause.Name name)
-    unfolding rightKind judged meet
-    kind-unknown e = rw (← ek, e) refl
-
-    pub kind-scalar : (t : ValueType) → k ≡ Scalar t → {j : Judged} → Beside (rightScalar (sameRow f (t .family)) index (valueInRecord t i place)) j
-        → Beside (rightKind f q name index (kindOf kind) (valueAt kind i place)) j
-    unfolding rightKind
-    kind-scalar t e h =
-        h ∙ ap (λ (x : Option ScalarValue). judged (meet a o f l (rightScalar (sameRow f (t .family)) index x))) (sym (scalar-of kind i place t (sym ek ∙ e)))
-        ∙ sym (ap (λ (x : Kind). judged (meet a o f l (rightKind f q name index x (valueAt kind i place)))) (sym ek ∙ e))
-
-    pub kind-array : (element : ℕ) (t : ValueType) → k ≡ Array element t → {j : Judged}
-        → Beside (rightArray q (sameRow f (t .family)) index (bodyValue t i (bodyAt i place))) j → Beside (rightKind f q name index (kindOf kind) (valueAt kind i place)) j
-    unfolding rightKind
-    kind-array element t e h =
-        h ∙ ap (λ (x : test.Array). judged (meet a o f l (rightArray q (sameRow f (t .family)) index x))) (sym (array-of kind i place element t (sym ek ∙ e)))
-        ∙ sym (ap (λ (x : Kind). judged (meet a o f l (rightKind f q name index x (valueAt kind i place)))) (sym ek ∙ e))
-
-  module _ (q t i notes : List ℕ) (p : path.Path) (index : Index) {r : Found} (er : r ≡ named q t p) where
-    pub property-absent : r ≡ found.Absent → Beside (rightProperty f q (p .first .start) index (entryNoted q t i notes p)) (Fails cause.Name (p .first .start))
-    unfolding rightProperty judged meet entryNoted
-    property-absent e = rw (← er, e) refl
-
-    pub property-found : (number kind : ℕ) → r ≡ found.Property number kind → {place : ℕ} → place ≡ placeNoted notes number → {j : Judged}
-        → Beside (rightKind f q (p .first .start) index (kindOf kind) (valueAt kind i place)) j → Beside (rightProperty f q (p .first .start) index (entryNoted q t i notes p)) j
-    unfolding rightProperty
-    property-found number kind e ep h = h ∙ rw (entry-there q t i notes p number kind (sym er ∙ e), ep) refl

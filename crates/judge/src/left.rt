@@ -6,10 +6,16 @@ use operand::index::read_index;
 use place::Body;
 use place::Source;
 use place::Spot;
+use place::body_at;
+use record::kind::Kind;
+use record::kind::ValueType;
+use record::kind::kind_of;
 use syntax::path::Index;
 use terminal::quantifier::Quantifier;
 use token::Token;
-ghost use Rattle.judge.specs.Answers.{ElementIn, IndexedIn, ScalarLeft, ArrayLeft};
+ghost use Rattle.record.specs.Kind.{kindOf};
+ghost use Rattle.instance.specs.Value.{valueAt};
+ghost use Rattle.judge.specs.Answers.{ElementIn, IndexedIn, ScalarLeft, ArrayLeft, KindLeft};
 
 // The record that is read; or that the index, at this place, is too large.
 pub enum SpotRead {
@@ -23,6 +29,12 @@ pub enum Left {
     One(SpotRead),
     Many(Body),
     Each(bool, Body),
+}
+
+// The type of the property on the left, with what is read of it; or none, of a kind that there isn't.
+pub enum Typed {
+    Untyped,
+    Of(ValueType, Left),
 }
 
 // The record of an array's element; of NULL none is read.
@@ -52,7 +64,7 @@ pub fn read_indexed<'a>(q: &'a [u8], i: &'a [u8], t: Token, x: Body) -> SpotRead
 }
 
 // Of the scalar in the record at a place.
-pub fn left_scalar(k: Quantifier, index: Index, place: usize) -> Left
+fn left_scalar(k: Quantifier, index: Index, place: usize) -> Left
     ensures { λ r. ⌜ ScalarLeft k index place r ⌝ }
 {
     match k {
@@ -69,7 +81,7 @@ pub fn left_scalar(k: Quantifier, index: Index, place: usize) -> Left
 }
 
 // Of an array.
-pub fn left_array<'a>(q: &'a [u8], i: &'a [u8], k: Quantifier, index: Index, x: Body) -> Left
+fn left_array<'a>(q: &'a [u8], i: &'a [u8], k: Quantifier, index: Index, x: Body) -> Left
     ensures { λ r. ⌜ ArrayLeft (now (q .entry)) (now (i .entry)) k index x r ⌝ }
 {
     match k {
@@ -79,5 +91,26 @@ pub fn left_array<'a>(q: &'a [u8], i: &'a [u8], k: Quantifier, index: Index, x: 
         },
         Quantifier::Any => Left::Each(true, x),
         Quantifier::Every => Left::Each(false, x),
+    }
+}
+
+// Of the property of a kind whose record starts at a place.
+pub fn left_of<'a>(
+    q: &'a [u8],
+    i: &'a [u8],
+    k: Quantifier,
+    index: Index,
+    kind: usize,
+    place: usize,
+) -> Typed
+    ensures { λ r. ⌜ KindLeft (now (q .entry)) (now (i .entry)) k index (kindOf kind) (valueAt kind (now (i .entry)) place) r ⌝ }
+{
+    match kind_of(kind) {
+        Kind::Unknown => Typed::Untyped,
+        Kind::Scalar(of) => Typed::Of(of, left_scalar(k, index, place)),
+        Kind::Array { element: _, of } => Typed::Of(
+            of,
+            left_array(q, i, k, index, body_at(i, place)),
+        ),
     }
 }

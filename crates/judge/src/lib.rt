@@ -5,68 +5,54 @@ pub mod property;
 pub mod right;
 
 use crate::left::Left;
-use crate::left::left_array;
-use crate::left::left_scalar;
+use crate::left::Typed;
+use crate::left::left_of;
+use crate::meet::meet_body;
 use crate::meet::meet_elements;
 use crate::meet::meet_one;
 use crate::meet::meet_pattern;
-use crate::property::meet_property;
-use crate::right::literal_at;
+use crate::property::right_of;
+use crate::right::Right;
 use instance::notes::place_noted;
 use operand::cause::Cause;
-use operand::literal_read::is_null_literal;
 use operand::name::find_named;
-use place::body_at;
-use record::kind::Kind;
 use record::kind::ValueType;
-use record::kind::kind_of;
 use short_circuit::Told;
 use syntax::comparison::Comparison;
-use syntax::right_side::RightSide;
 use table::lookup::Found;
 ghost use mathlib.Core.Path.{_≡_};
 ghost use Rattle.record.specs.Kind.{kindOf};
 ghost use Rattle.instance.specs.Value.{valueAt};
 ghost use Rattle.judge.specs.Meaning as meaning;
-ghost use Rattle.judge.specs.Meaning.{rightOf, meantBy};
+ghost use Rattle.judge.specs.Meaning.{meantBy};
 ghost use Rattle.judge.specs.Environment.{entryNoted};
-ghost use Rattle.judge.specs.Answers.{judged, leftSeen};
+ghost use Rattle.judge.specs.Answers.{judged, leftSeen, rightSeen};
 
 pub enum Judged {
     Fails(Cause, usize),
     Tells(Told),
 }
 
-// A left side of a type beside a comparison's right side.
-fn judge_right<'a>(
-    q: &'a [u8],
-    t: &'a [u8],
-    i: &'a [u8],
-    notes: &[usize],
+// Both sides of a comparison, over a left property of a type.
+fn judge_sides<'a>(
     c: Comparison,
+    q: &'a [u8],
+    i: &'a [u8],
     of: ValueType,
     l: Left,
+    r: Right,
 ) -> Judged
-    ensures { λ r. ⌜ r ≡ judged (meaning.meet (c .left) (c .operation) (of .family) (leftSeen of (now (q .entry)) (now (i .entry)) l) (rightOf (of .family) (now (q .entry)) (entryNoted (now (q .entry)) (now (t .entry)) (now (i .entry)) (now (notes .entry))) (c .right))) ⌝ }
+    ensures { λ j. ⌜ j ≡ judged (meaning.meet (c .left) (c .operation) (of .family) (leftSeen of (now (q .entry)) (now (i .entry)) l) (rightSeen (of .family) (now (q .entry)) (now (i .entry)) r)) ⌝ }
 {
     let a = c.left;
     let o = c.operation;
-    let right = c.right;
-    let family = of.family;
-    match right {
-        RightSide::Literal(x) => meet_one(
-            a,
-            o,
-            q,
-            i,
-            of,
-            l,
-            is_null_literal(x),
-            literal_at(family, q, i, x),
-        ),
-        RightSide::Elements(from, count, _) => meet_elements(a, o, q, i, of, l, from, count),
-        RightSide::Property(p, index) => meet_property(a, o, q, t, i, notes, of, l, p, index),
-        RightSide::Pattern(x) => meet_pattern(a, o, q, i, of, l, x),
+    match r {
+        Right::Missing(place) => Judged::Fails(Cause::Name, place),
+        Right::Unindexable => Judged::Fails(Cause::Shape, a.start),
+        Right::One(null, y) => meet_one(a, o, q, i, of, l, null, y),
+        Right::Elements(from, count) => meet_elements(a, o, q, i, of, l, from, count),
+        Right::Many(same, with, y) => meet_body(a, o, q, i, of, l, same, with, y),
+        Right::Pattern(t) => meet_pattern(a, o, q, i, of, l, t),
     }
 }
 
@@ -87,26 +73,13 @@ fn judge_kind<'a>(
     let index = a.index;
     let path = a.path;
     let first = path.first;
-    match kind_of(kind) {
-        Kind::Unknown => Judged::Fails(Cause::Name, first.start),
-        Kind::Scalar(of) => judge_right(
-            q,
-            t,
-            i,
-            notes,
-            c,
-            of,
-            left_scalar(quantifier, index, place),
-        ),
-        Kind::Array { element: _, of } => judge_right(
-            q,
-            t,
-            i,
-            notes,
-            c,
-            of,
-            left_array(q, i, quantifier, index, body_at(i, place)),
-        ),
+    let right = c.right;
+    match left_of(q, i, quantifier, index, kind, place) {
+        Typed::Untyped => Judged::Fails(Cause::Name, first.start),
+        Typed::Of(of, l) => {
+            let family = of.family;
+            judge_sides(c, q, i, of, l, right_of(q, t, i, notes, family, right))
+        }
     }
 }
 

@@ -1,146 +1,151 @@
-// A property on the right of a comparison.
-use crate::Judged;
-use crate::left::Left;
+// A property on the right of a comparison, and the whole right side.
 use crate::left::SpotRead;
 use crate::left::read_indexed;
-use crate::meet::meet_body;
-use crate::meet::meet_one;
+use crate::right::Right;
+use crate::right::literal_at;
 use crate::right::value_of_row;
 use instance::notes::place_noted;
-use operand::cause::Cause;
+use operand::literal_read::is_null_literal;
 use operand::name::find_named;
+use place::Body;
 use place::Source;
 use place::Spot;
 use place::body_at;
+use record::kind::Family;
 use record::kind::Kind;
 use record::kind::ValueType;
 use record::kind::kind_of;
 use record::kind::same_row;
-use syntax::left_side::LeftSide;
-use syntax::operation::Operation;
 use syntax::path::Index;
 use syntax::path::Path;
+use syntax::right_side::RightSide;
 use table::lookup::Found;
 ghost use mathlib.Core.Path.{_≡_};
-ghost use Rattle.record.specs.Kind.{kindOf, sameRow};
+ghost use Rattle.record.specs.Kind.{kindOf};
 ghost use Rattle.instance.specs.Value.{valueAt};
-ghost use Rattle.value.specs.Read.{valueInRecord};
-ghost use Rattle.place.specs.Place.{bodyAt, bodyValue};
-ghost use Rattle.judge.specs.Meaning as meaning;
-ghost use Rattle.judge.specs.Meaning.{rightScalar, rightArray, rightKind, rightProperty};
+ghost use Rattle.judge.specs.Meaning.{rightKind, rightProperty, rightOf};
 ghost use Rattle.judge.specs.Environment.{entryNoted};
-ghost use Rattle.judge.specs.Answers.{judged, leftSeen};
+ghost use Rattle.judge.specs.Answers.{rightSeen, ScalarRight, ArrayRight};
 
 // A scalar, in the record at a place.
-fn meet_scalar<'a>(
-    a: LeftSide,
-    o: Operation,
+fn right_scalar<'a>(
     q: &'a [u8],
     i: &'a [u8],
-    of: ValueType,
-    l: Left,
+    same: bool,
     index: Index,
     with: ValueType,
     place: usize,
-) -> Judged
-    ensures { λ r. ⌜ r ≡ judged (meaning.meet a o (of .family) (leftSeen of (now (q .entry)) (now (i .entry)) l) (rightScalar (sameRow (of .family) (with .family)) index (valueInRecord with (now (i .entry)) place))) ⌝ }
+) -> Right
+    ensures { λ r. ⌜ ScalarRight (now (q .entry)) (now (i .entry)) same index with place r ⌝ }
 {
-    let family = of.family;
-    let other = with.family;
     match index {
         Index::Whole => {
             let x = SpotRead::At(Spot {
                 source: Source::Instance,
                 place,
             });
-            let y = value_of_row(same_row(family, other), q, i, with, x);
-            meet_one(a, o, q, i, of, l, false, y)
+            Right::One(false, value_of_row(same, q, i, with, x))
         }
-        Index::At(_) => Judged::Fails(Cause::Shape, a.start),
+        Index::At(_) => Right::Unindexable,
     }
 }
 
-// An array, in the record at a place.
-fn meet_array<'a>(
-    a: LeftSide,
-    o: Operation,
+fn right_array<'a>(
     q: &'a [u8],
     i: &'a [u8],
-    of: ValueType,
-    l: Left,
+    same: bool,
     index: Index,
     with: ValueType,
-    place: usize,
-) -> Judged
-    ensures { λ r. ⌜ r ≡ judged (meaning.meet a o (of .family) (leftSeen of (now (q .entry)) (now (i .entry)) l) (rightArray (now (q .entry)) (sameRow (of .family) (with .family)) index (bodyValue with (now (i .entry)) (bodyAt (now (i .entry)) place)))) ⌝ }
+    body: Body,
+) -> Right
+    ensures { λ r. ⌜ ArrayRight (now (q .entry)) (now (i .entry)) same index with body r ⌝ }
 {
-    let family = of.family;
-    let other = with.family;
-    let same = same_row(family, other);
-    let body = body_at(i, place);
     match index {
-        Index::Whole => meet_body(a, o, q, i, of, l, same, with, body),
-        Index::At(t) => {
-            let y = value_of_row(same, q, i, with, read_indexed(q, i, t, body));
-            meet_one(a, o, q, i, of, l, false, y)
-        }
+        Index::Whole => Right::Many(same, with, body),
+        Index::At(t) => Right::One(
+            false,
+            value_of_row(same, q, i, with, read_indexed(q, i, t, body)),
+        ),
     }
 }
 
-// A property of a kind whose record starts at a place; its name starts at `name`.
-fn meet_kind<'a>(
-    a: LeftSide,
-    o: Operation,
+// A property of a kind whose record starts at a place, beside one of a family; its name starts at `name`.
+fn right_kind<'a>(
     q: &'a [u8],
     i: &'a [u8],
-    of: ValueType,
-    l: Left,
+    family: Family,
     name: usize,
     index: Index,
     kind: usize,
     place: usize,
-) -> Judged
-    ensures { λ r. ⌜ r ≡ judged (meaning.meet a o (of .family) (leftSeen of (now (q .entry)) (now (i .entry)) l) (rightKind (of .family) (now (q .entry)) name index (kindOf kind) (valueAt kind (now (i .entry)) place))) ⌝ }
+) -> Right
+    ensures { λ r. ⌜ rightSeen family (now (q .entry)) (now (i .entry)) r ≡ rightKind family (now (q .entry)) name index (kindOf kind) (valueAt kind (now (i .entry)) place) ⌝ }
 {
     match kind_of(kind) {
-        Kind::Unknown => Judged::Fails(Cause::Name, name),
-        Kind::Scalar(with) => meet_scalar(a, o, q, i, of, l, index, with, place),
+        Kind::Unknown => Right::Missing(name),
+        Kind::Scalar(with) => {
+            let other = with.family;
+            right_scalar(q, i, same_row(family, other), index, with, place)
+        }
         Kind::Array {
             element: _,
             of: with,
-        } => meet_array(a, o, q, i, of, l, index, with, place),
+        } => {
+            let other = with.family;
+            right_array(
+                q,
+                i,
+                same_row(family, other),
+                index,
+                with,
+                body_at(i, place),
+            )
+        }
     }
 }
 
-// A left side beside the property of a path.
-pub fn meet_property<'a>(
-    a: LeftSide,
-    o: Operation,
+// The property of a path.
+fn right_property<'a>(
     q: &'a [u8],
     t: &'a [u8],
     i: &'a [u8],
     notes: &[usize],
-    of: ValueType,
-    l: Left,
+    family: Family,
     p: Path,
     index: Index,
-) -> Judged
-    ensures { λ r. ⌜ r ≡ judged (meaning.meet a o (of .family) (leftSeen of (now (q .entry)) (now (i .entry)) l) (rightProperty (of .family) (now (q .entry)) (p .first .start) index (entryNoted (now (q .entry)) (now (t .entry)) (now (i .entry)) (now (notes .entry)) p))) ⌝ }
+) -> Right
+    ensures { λ r. ⌜ rightSeen family (now (q .entry)) (now (i .entry)) r ≡ rightProperty family (now (q .entry)) (p .first .start) index (entryNoted (now (q .entry)) (now (t .entry)) (now (i .entry)) (now (notes .entry)) p) ⌝ }
 {
     let first = p.first;
     match find_named(q, t, p) {
-        Found::Absent => Judged::Fails(Cause::Name, first.start),
-        Found::Property { number, kind } => meet_kind(
-            a,
-            o,
+        Found::Absent => Right::Missing(first.start),
+        Found::Property { number, kind } => right_kind(
             q,
             i,
-            of,
-            l,
+            family,
             first.start,
             index,
             kind,
             place_noted(notes, number),
         ),
+    }
+}
+
+// The right side beside a property of a family.
+pub fn right_of<'a>(
+    q: &'a [u8],
+    t: &'a [u8],
+    i: &'a [u8],
+    notes: &[usize],
+    family: Family,
+    right: RightSide,
+) -> Right
+    ensures { λ r. ⌜ rightSeen family (now (q .entry)) (now (i .entry)) r ≡ rightOf family (now (q .entry)) (entryNoted (now (q .entry)) (now (t .entry)) (now (i .entry)) (now (notes .entry))) right ⌝ }
+{
+    match right {
+        RightSide::Literal(x) => Right::One(is_null_literal(x), literal_at(family, q, i, x)),
+        RightSide::Elements(from, count, _) => Right::Elements(from, count),
+        RightSide::Property(p, index) => right_property(q, t, i, notes, family, p, index),
+        RightSide::Pattern(x) => Right::Pattern(x),
     }
 }

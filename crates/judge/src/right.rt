@@ -5,6 +5,7 @@ use operand::element::first_element;
 use operand::element::next_element;
 use operand::literal_read::LiteralRead;
 use operand::literal_read::read_literal;
+use place::Body;
 use place::Located;
 use place::Source;
 use place::Spot;
@@ -19,6 +20,17 @@ ghost use Rattle.operand.specs.Element.{elementTokens};
 ghost use Rattle.place.specs.Place.{spotValue, locatedValue};
 ghost use Rattle.judge.specs.Meaning.{literal, elements, ofRow};
 ghost use Rattle.judge.specs.Answers.{itemRead, spotRead, listRead, listBefore, ListOf};
+
+// No property of its name, with the name's place; an indexed scalar; one value, and whether it is the literal NULL; an array literal, with its start and how many
+// elements it has; an array of the instance, of the row that is asked for or not; a pattern.
+pub enum Right {
+    Missing(usize),
+    Unindexable,
+    One(bool, ItemRead),
+    Elements(usize, usize),
+    Many(bool, ValueType, Body),
+    Pattern(Token),
+}
 
 // One value: of another row; wrong in itself, with its place; or the value.
 pub enum ItemRead {

@@ -1,7 +1,7 @@
-use Rattle.judge.proofs.Judging as law
+use Rattle.judge.proofs.RightSides as law
 use borrow.Author.Needs.{needs}
-use Rattle.judge.proofs.judge_right.Statement.{statement}
-use Rattle.judge.proofs.judge_right.Tie as tie
+use Rattle.judge.proofs.property.right_of.Statement.{statement}
+use Rattle.judge.proofs.property.right_of.Tie as tie
 
 enum-known-right : tie.Need-enum-known-right
 enum-known-right c = search needs
@@ -12,26 +12,17 @@ is-null-literal-requires c κs = search needs
 literal-at-requires : tie.Need-literal-at-requires
 literal-at-requires c κs = search needs
 
-meet-one-requires : tie.Need-meet-one-requires
-meet-one-requires c κs = search needs
-
 enum-known-right-2 : tie.Need-enum-known-right-2
 enum-known-right-2 c = search needs
-
-meet-elements-requires : tie.Need-meet-elements-requires
-meet-elements-requires c κs = search needs
 
 enum-known-right-3 : tie.Need-enum-known-right-3
 enum-known-right-3 c = search needs
 
-meet-property-requires : tie.Need-meet-property-requires
-meet-property-requires c κs = search needs
+right-property-requires : tie.Need-right-property-requires
+right-property-requires c κs = search needs
 
 enum-known-right-4 : tie.Need-enum-known-right-4
 enum-known-right-4 c = search needs
-
-meet-pattern-requires : tie.Need-meet-pattern-requires
-meet-pattern-requires c κs = search needs
 
 returns : tie.Need-returns
 returns c = search law.by-literal
@@ -45,20 +36,17 @@ returns-3 c = search law.by-property
 returns-4 : tie.Need-returns-4
 returns-4 c = search law.by-pattern
 
-pub judge-right-spec : {M : Type 1} → statement M
-judge-right-spec =
+pub right-of-spec : {M : Type 1} → statement M
+right-of-spec =
     tie.close
     (tie.spec
     enum-known-right
     is-null-literal-requires
     literal-at-requires
-    meet-one-requires
     enum-known-right-2
-    meet-elements-requires
     enum-known-right-3
-    meet-property-requires
+    right-property-requires
     enum-known-right-4
-    meet-pattern-requires
     returns
     returns-2
     returns-3

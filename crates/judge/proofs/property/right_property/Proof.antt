@@ -1,7 +1,7 @@
-use Rattle.judge.proofs.Meeting as law
+use Rattle.judge.proofs.RightSides as law
 use borrow.Author.Needs.{needs}
-use Rattle.judge.proofs.property.meet_property.Statement.{statement}
-use Rattle.judge.proofs.property.meet_property.Tie as tie
+use Rattle.judge.proofs.property.right_property.Statement.{statement}
+use Rattle.judge.proofs.property.right_property.Tie as tie
 
 find-named-requires : tie.Need-find-named-requires
 find-named-requires c κs = search needs
@@ -15,8 +15,8 @@ enum-known-number c = search needs
 place-noted-requires : tie.Need-place-noted-requires
 place-noted-requires c κs = search needs
 
-meet-kind-requires : tie.Need-meet-kind-requires
-meet-kind-requires c κs = search needs
+right-kind-requires : tie.Need-right-kind-requires
+right-kind-requires c κs = search needs
 
 returns : tie.Need-returns
 returns c = search law.property-absent
@@ -24,14 +24,14 @@ returns c = search law.property-absent
 returns-2 : tie.Need-returns-2
 returns-2 c = search law.property-found
 
-pub meet-property-spec : {M : Type 1} → statement M
-meet-property-spec =
+pub right-property-spec : {M : Type 1} → statement M
+right-property-spec =
     tie.close
     (tie.spec
     find-named-requires
     enum-told
     enum-known-number
     place-noted-requires
-    meet-kind-requires
+    right-kind-requires
     returns
     returns-2)
