@@ -33,7 +33,7 @@ use Rattle.query_text.specs.Tree.{holds}
 use Rattle.query_text.proofs.Laws.{from-out, from-bad, from-last, from-more}
 use Rattle.short_circuit.specs.declared.Told.{Told}
 use Rattle.short_circuit.specs.Walk.{told, initial, stepsIf, walkQuery}
-use Rattle.short_circuit.proofs.Loop.{walk-good}
+use Rattle.short_circuit.proofs.Loop.{walk-good, walk-called}
 use Rattle.instance.specs.Fault.{conformity}
 use Rattle.instance.specs.Noted.{notesAfter}
 use Rattle.instance.proofs.NotedPlaces.{few-kinds}
@@ -278,10 +278,13 @@ module _ (q t i : List ℕ) (accepted : check.check q t ≡ Accepted) where
     judged-all (refused c p) e = absurd (call-refused c p e)
     judged-all (compares l) e = walk-good (truthNoted q t i notes) (stepsNoted q t i notes) q l (call-good q t l e)
 
-    pub noted-answers : {x : Told} → x ≡ walkQuery (truthNoted q t i notes) (stepsNoted q t i notes) initial 0 (query q)
+    pub noted-answers : (b : QueryStart) → b ≡ queryStart (scan q)
+        → {x : Told} → x ≡ walkQuery (truthNoted q t i notes) (stepsNoted q t i notes) initial 0 (queryFrom 64 (scan q) (b .grouped) (b .token))
         → {a : Answer} → a ≡ answer (x .holds) (x .steps) → a ≡ evaluateNoted q t i notes
-    noted-answers ex ea =
-        ea ∙ ap (λ (y : Told). answer (y .holds) (y .steps)) (ex ∙ judged-all (callOf q t) refl)
+    noted-answers b eb ex ea =
+        ea
+        ∙ ap (λ (y : Told). answer (y .holds) (y .steps))
+        (walk-called (truthNoted q t i notes) (stepsNoted q t i notes) q b eb ex ∙ judged-all (callOf q t) refl)
         ∙ sym (tied-accepted conformity.Conforming (check.check q t) (evaluateNoted q t i notes) (truthCall (meantNoted q t i notes) (callOf q t))
         (stepsCall (meantNoted q t i notes) (callOf q t)) accepted (noted-tied q t i notes))
 

@@ -11,6 +11,7 @@ use judge::Judged;
 use judge::judge;
 use query_text::join::is_last;
 use query_text::query::NextResult;
+use query_text::query::QueryStart;
 use query_text::query::open_query;
 use query_text::query::read_next;
 use short_circuit::Told;
@@ -25,7 +26,7 @@ ghost use mathlib.Core.Bool.{_&&_};
 ghost use Prim.Native.Nat.{_+_, _≤_};
 ghost use lib.ListN.{length};
 ghost use Rattle.syntax.specs.Scan.{scan};
-ghost use Rattle.query_text.specs.Query.{queryFrom, query};
+ghost use Rattle.query_text.specs.Query.{queryFrom, queryStart};
 ghost use Rattle.instance.specs.Noted.{notesAfter};
 ghost use Rattle.short_circuit.specs.Walk.{told, initial, stepsIf, walkQuery};
 ghost use Rattle.filter.specs.Check as Check;
@@ -104,15 +105,6 @@ fn walk_from<'a>(
     }
 }
 
-fn walk<'a>(q: &'a [u8], t: &'a [u8], i: &'a [u8], notes: &[usize]) -> Told
-    requires { ⌜ length (now i) ≤ 65535 ⌝ }
-    ensures { λ r. ⌜ r ≡ walkQuery (truthNoted (now (q .entry)) (now (t .entry)) (now (i .entry)) (now (notes .entry))) (stepsNoted (now (q .entry)) (now (t .entry)) (now (i .entry)) (now (notes .entry))) initial 0 (query (now (q .entry))) ⌝ }
-{
-    let o = open_query(q);
-    let token = o.token;
-    walk_from(q, t, i, notes, o.grouped, token)
-}
-
 fn answer_of(x: Told) -> Answer
     ensures { λ r. ⌜ r ≡ Evaluate.answer (x .holds) (x .steps) ⌝ }
 {
@@ -122,29 +114,32 @@ fn answer_of(x: Told) -> Answer
     Answer::Excluded(x.steps)
 }
 
-// Of a query that the check accepts, over an instance that is already walked: each property's record is read at the place noted for it, whatever is noted. Whoever has many
-// filters walks an instance once, with `check_instance`, and evaluates each of them here. Of an instance of at most 65,535 bytes the steps can't overflow.
+// Of a query that the check accepts, opened, over an instance that is already walked: each property's record is read at the place noted for it, whatever is noted. Whoever has
+// many filters walks an instance once, with `check_instance`, and evaluates each of them here. Of an instance of at most 65,535 bytes the steps can't overflow.
 pub fn evaluate_noted<'a>(
     query: &'a [u8],
+    start: QueryStart,
     table: &'a [u8],
     instance: &'a [u8],
     notes: &[usize],
 ) -> Answer
-    requires { ⌜ (Check.check (now query) (now table) ≡ Checked.Accepted) × (length (now instance) ≤ 65535) ⌝ }
+    requires { ⌜ (Check.check (now query) (now table) ≡ Checked.Accepted) × (start ≡ queryStart (scan (now query))) × (length (now instance) ≤ 65535) ⌝ }
     ensures { λ r. ⌜ r ≡ evaluateNoted (now (query .entry)) (now (table .entry)) (now (instance .entry)) (now (notes .entry)) ⌝ }
 {
-    answer_of(walk(query, table, instance, notes))
+    let token = start.token;
+    answer_of(walk_from(query, table, instance, notes, start.grouped, token))
 }
 
-// Of a query that the check accepts: whether it includes the instance, and in how many steps. Whoever evaluates many instances checks once, and lends the same notes for each:
-// what they hold before doesn't matter.
+// Of a query that the check accepts, opened: whether it includes the instance, and in how many steps. Whoever evaluates many instances checks and opens once, and lends the same
+// notes for each: what they hold before doesn't matter.
 pub fn evaluate_accepted<'a>(
     query: &'a [u8],
+    start: QueryStart,
     table: &'a [u8],
     instance: &'a [u8],
     notes: &mut [usize],
 ) -> Answer
-    requires { ⌜ (Check.check (now query) (now table) ≡ Checked.Accepted) × (128 ≤ length (now notes)) ⌝ }
+    requires { ⌜ (Check.check (now query) (now table) ≡ Checked.Accepted) × (start ≡ queryStart (scan (now query))) × (128 ≤ length (now notes)) ⌝ }
     ensures { λ r. ⌜ (r ≡ Evaluate.evaluate (now (query .entry)) (now (table .entry)) (now (instance .entry))) × (now (notes .exit) ≡ notesAfter (now (table .entry)) (now (instance .entry)) (now (notes .entry))) × (length (now (notes .exit)) ≡ length (now (notes .entry))) ⌝ }
 {
     match check_instance(table, instance, notes) {
@@ -152,7 +147,7 @@ pub fn evaluate_accepted<'a>(
             cause: Cause::Instance(cause),
             place,
         }),
-        Conformity::Conforming => evaluate_noted(query, table, instance, notes),
+        Conformity::Conforming => evaluate_noted(query, start, table, instance, notes),
     }
 }
 
@@ -164,7 +159,7 @@ pub fn evaluate<'a>(query: &'a [u8], table: &'a [u8], instance: &'a [u8]) -> Ans
         Checked::Refused(r) => Answer::Refused(r),
         Checked::Accepted => {
             let mut notes = [0usize; NOTES];
-            evaluate_accepted(query, table, instance, &mut notes)
+            evaluate_accepted(query, open_query(query), table, instance, &mut notes)
         }
     }
 }

@@ -7,6 +7,7 @@ use filter::check::check;
 use filter::evaluate::evaluate_accepted;
 use filter::refusal::Checked;
 use instance::notes::NOTES;
+use query_text::query::open_query;
 use record::read::RecordAt;
 use record::read::record_at;
 use run::fault::RunFault;
@@ -29,6 +30,7 @@ fn mark_instances<'a>(query: &'a [u8], table: &'a [u8], run: &'a [u8], marks: &m
     requires { ⌜ (Check.check (now query) (now table) ≡ Checked.Accepted) × (length (instancesOf (now run)) ≤ length (now marks)) ⌝ }
     ensures { λ r. ⌜ (r ≡ totalsOf (answersOf (now (query .entry)) (now (table .entry)) (now (run .entry)))) × (now (marks .exit) ≡ marksOf (now (query .entry)) (now (table .entry)) (now (run .entry)) ++ drop (length (instancesOf (now (run .entry)))) (now (marks .entry))) × (length (now (marks .exit)) ≡ length (now (marks .entry))) ⌝ }
 {
+    let opened = open_query(query);
     let mut notes = [0usize; NOTES];
     let mut at: usize = 0;
     let mut i: usize = 0;
@@ -45,7 +47,13 @@ fn mark_instances<'a>(query: &'a [u8], table: &'a [u8], run: &'a [u8], marks: &m
                 length,
                 next,
             } => {
-                let answer = evaluate_accepted(query, table, piece(run, start, length), &mut notes);
+                let answer = evaluate_accepted(
+                    query,
+                    opened,
+                    table,
+                    piece(run, start, length),
+                    &mut notes,
+                );
                 marks[i] = mark_of(answer);
                 totals = count_answer(totals, answer);
                 i += 1;

@@ -8,6 +8,7 @@ use filter::evaluate::evaluate_accepted;
 use filter::refusal::Checked;
 use filter::refusal::number_of;
 use instance::notes::NOTES;
+use query_text::query::open_query;
 use record::read::RecordAt;
 use record::read::record_at;
 use run::fault::RunFault;
@@ -33,6 +34,7 @@ fn write_answers<'a>(out: &mut [u8], query: &'a [u8], table: &'a [u8], run: &'a 
     requires { ⌜ Check.check (now query) (now table) ≡ Checked.Accepted ⌝ }
     ensures { λ r. ⌜ Written (now (out .entry)) 0 (text (runLines (answersOf (now (query .entry)) (now (table .entry)) (now (run .entry))))) r (now (out .exit)) ⌝ }
 {
+    let opened = open_query(query);
     let mut notes = [0usize; NOTES];
     let mut place = 0;
     let mut at = 0;
@@ -50,7 +52,13 @@ fn write_answers<'a>(out: &mut [u8], query: &'a [u8], table: &'a [u8], run: &'a 
                 length,
                 next,
             } => {
-                let answer = evaluate_accepted(query, table, piece(run, start, length), &mut notes);
+                let answer = evaluate_accepted(
+                    query,
+                    opened,
+                    table,
+                    piece(run, start, length),
+                    &mut notes,
+                );
                 count += 1;
                 place = write_answer(out, place, count, answer);
                 totals = count_answer(totals, answer);

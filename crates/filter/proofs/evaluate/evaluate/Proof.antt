@@ -15,8 +15,11 @@ enum-told c = search needs
 slice-aggregate-evaluate-accepted : tie.Need-slice-aggregate-evaluate-accepted
 slice-aggregate-evaluate-accepted c = search needs
 
+open-query-requires : tie.Need-open-query-requires
+open-query-requires c κs = search needs
+
 evaluate-accepted-requires : tie.Need-evaluate-accepted-requires
-evaluate-accepted-requires c κs = (search law.accepts, search needs)
+evaluate-accepted-requires c κs = (search law.accepts, search needs, search needs)
 
 returns : tie.Need-returns
 returns c = search law.evaluate-refused
@@ -31,6 +34,7 @@ evaluate-spec =
     check-requires
     enum-known-r
     enum-told
+    open-query-requires
     slice-aggregate-evaluate-accepted
     evaluate-accepted-requires
     returns

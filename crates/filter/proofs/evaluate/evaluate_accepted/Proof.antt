@@ -13,7 +13,7 @@ enum-told : tie.Need-enum-told
 enum-told c = search needs
 
 evaluate-noted-requires : tie.Need-evaluate-noted-requires
-evaluate-noted-requires c κs = (search needs, search law.short)
+evaluate-noted-requires c κs = (search needs, search needs, search law.short)
 
 same-length : tie.Need-same-length
 same-length c = search needs

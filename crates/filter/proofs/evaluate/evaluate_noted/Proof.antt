@@ -3,8 +3,8 @@ use Rattle.filter.proofs.Laws as law
 use Rattle.filter.proofs.evaluate.evaluate_noted.Statement.{statement}
 use Rattle.filter.proofs.evaluate.evaluate_noted.Tie as tie
 
-walk-requires : tie.Need-walk-requires
-walk-requires c κs = search needs
+walk-from-requires : tie.Need-walk-from-requires
+walk-from-requires c κs = search needs
 
 answer-of-requires : tie.Need-answer-of-requires
 answer-of-requires c κs = search needs
@@ -13,4 +13,4 @@ returns : tie.Need-returns
 returns c = search law.noted-answers
 
 pub evaluate-noted-spec : {M : Type 1} → statement M
-evaluate-noted-spec = tie.close (tie.spec walk-requires answer-of-requires returns)
+evaluate-noted-spec = tie.close (tie.spec walk-from-requires answer-of-requires returns)

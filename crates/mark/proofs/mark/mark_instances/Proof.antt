@@ -12,10 +12,13 @@ use Rattle.mark.proofs.mark.mark_instances.Statement.{statement}
 use Rattle.mark.proofs.mark.mark_instances.Tie as tie
 
 abbrev Inv-loop : tie.InvT-loop
-Inv-loop query table run marks₀ notes₀ at₀ i₀ totals₀ marks notes at i totals = Marking query table (instancesOf run) (bodiesOf run (records run at)) marks₀ i totals marks × (length notes ≡ 128)
+Inv-loop query table run marks₀ opened notes₀ at₀ i₀ totals₀ marks notes at i totals = Marking query table (instancesOf run) (bodiesOf run (records run at)) marks₀ i totals marks × (length notes ≡ 128)
 
 abbrev μ-loop : tie.MeasureT-loop
-μ-loop query table run marks₀ notes₀ at₀ i₀ totals₀ marks notes at i totals = length run - at
+μ-loop query table run marks₀ opened notes₀ at₀ i₀ totals₀ marks notes at i totals = length run - at
+
+open-query-requires : tie.Need-open-query-requires Inv-loop μ-loop
+open-query-requires c κs = search needs
 
 loop-holds : tie.Need-loop-holds Inv-loop μ-loop
 loop-holds c = (search law.marking-begins, search needs)
@@ -45,7 +48,7 @@ count-answer-requires : tie.Need-count-answer-requires Inv-loop μ-loop
 count-answer-requires c κs = let m = law.marking-few _ _ _ _ _ _ _ _ (c .before .before .before .before .before .before .before .before .before .loop .inv .0) (c .before .before .before .before .before .before .before .before .record-at .ensures) (c .before .before .before .before .before .before .start .given .1) in omega arith
 
 add-i : tie.Need-add-i Inv-loop μ-loop
-add-i c = let m = law.marking-room _ _ _ _ _ _ _ _ (c .before .before .before .before .before .before .before .before .before .before .loop .inv .0) (c .before .before .before .before .before .before .before .before .before .record-at .ensures) (c .before .before .before .before .before .before .before .start .given .1) in omega arith
+add-i c = let m = law.marking-room _ _ _ _ _ _ _ _ (c .before .before .before .before .before .before .before .before .before .before .loop .inv .0) (c .before .before .before .before .before .before .before .before .before .record-at .ensures) (c .before .before .before .before .before .before .before .start .given .1) in omega (arith, c .before .before .before .before .before .before .before .before .before .before .before .before .before .before .before .before .good)
 
 loop-less : tie.Need-loop-less Inv-loop μ-loop
 loop-less c = search reach.step-less
@@ -77,6 +80,7 @@ mark-instances-spec =
     (tie.spec
     Inv-loop
     μ-loop
+    open-query-requires
     loop-holds
     record-at-requires
     enum-known-start

@@ -11,10 +11,13 @@ use Rattle.report.proofs.output.write_answers.Statement.{statement}
 use Rattle.report.proofs.output.write_answers.Tie as tie
 
 abbrev Inv-loop : tie.InvT-loop
-Inv-loop out₀ query table run notes₀ place₀ at₀ count₀ totals₀ out notes place at count totals = Writing (answersOf query table run) out₀ out place count totals (answersAt query table run at) × (length notes ≡ 128)
+Inv-loop out₀ query table run opened notes₀ place₀ at₀ count₀ totals₀ out notes place at count totals = Writing (answersOf query table run) out₀ out place count totals (answersAt query table run at) × (length notes ≡ 128)
 
 abbrev μ-loop : tie.MeasureT-loop
-μ-loop out₀ query table run notes₀ place₀ at₀ count₀ totals₀ out notes place at count totals = length run - at
+μ-loop out₀ query table run opened notes₀ place₀ at₀ count₀ totals₀ out notes place at count totals = length run - at
+
+open-query-requires : tie.Need-open-query-requires Inv-loop μ-loop
+open-query-requires c κs = search needs
 
 loop-holds : tie.Need-loop-holds Inv-loop μ-loop
 loop-holds c = (search law.writing-begins, search needs)
@@ -41,7 +44,7 @@ write-answer-requires : tie.Need-write-answer-requires Inv-loop μ-loop
 write-answer-requires c κs = search needs
 
 count-answer-requires : tie.Need-count-answer-requires Inv-loop μ-loop
-count-answer-requires c κs = let m = law.writing-few _ _ _ _ _ _ _ _ _ (c .before .before .before .before .before .before .before .before .before .before .before .before .loop .inv .0) (c .before .before .before .before .before .before .before .before .before .before .before .record-at .ensures) (c .before .before .before .before .before .before .before .before .before .start .given .1) in omega arith
+count-answer-requires c κs = let m = law.writing-few _ _ _ _ _ _ _ _ _ (c .before .before .before .before .before .before .before .before .before .before .before .before .loop .inv .0) (c .before .before .before .before .before .before .before .before .before .before .before .record-at .ensures) (c .before .before .before .before .before .before .before .before .before .start .given .1) in omega (arith, c .before .before .before .before .before .before .before .before .before .before .before .before .before .before .before .before .before .before .good)
 
 loop-less : tie.Need-loop-less Inv-loop μ-loop
 loop-less c = search reach.step-less
@@ -79,6 +82,7 @@ write-answers-spec =
     (tie.spec
     Inv-loop
     μ-loop
+    open-query-requires
     loop-holds
     record-at-requires
     enum-known-start
