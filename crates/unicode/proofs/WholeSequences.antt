@@ -49,7 +49,6 @@ module _ (s : List ℕ) (p : ℕ) (inside : p < length s) where
 
   -- a continuation byte is within the text
   there : (i : ℕ) → isContinuation (byteAt s (p + i)) ≡ true → (p + i < length s) × ((0x80 ≤ byteAt s (p + i)) × (byteAt s (p + i) ≤ 0xBF))
-  unfolding isContinuation
   there i h = let b = bounds 0x80 0xBF (byteAt s (p + i)) h in (byte-within s (p + i) (λ z. omega (arith, b .0)), b)
 
   two : ofTwo (byteAt s p) (byteAt s (p + 1)) (byteAt s (p + 2)) ≡ true → Starts s p
@@ -66,7 +65,7 @@ module _ (s : List ℕ) (p : ℕ) (inside : p < length s) where
       (omega arith) (λ i x y. let e : i ≡ 1 = omega arith in rw e (q .1)) (not-true _ (o .1))
 
   three : ofThree (byteAt s p) (byteAt s (p + 1)) (byteAt s (p + 2)) (byteAt s (p + 3)) ≡ true → Starts s p
-  unfolding fits inRange continuations isContinuation
+  unfolding fits inRange continuations
   three h =
       let b0 = byteAt s p in
       let b1 = byteAt s (p + 1) in

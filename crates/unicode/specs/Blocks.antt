@@ -42,7 +42,7 @@ pub record Walked (s : List ℕ) (at stop next : ℕ) : Type 0 where
   pub stuck : next < stop → Stuck s next stop
 
 -- a byte that is none of a sequence's first bytes
-unfoldable pub isContinuation : ℕ → Bool
+abbrev pub isContinuation : ℕ → Bool
 isContinuation b = within 0x80 0xBF b
 
 -- by the first bytes at a place: a sequence of one, two and three bytes (Table 3-7) that no continuation byte follows

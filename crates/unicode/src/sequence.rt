@@ -5,6 +5,7 @@ ghost use lib.ListN.{length, getD};
 ghost use Rattle.base.specs.Range.{within};
 ghost use Rattle.unicode.specs.Lead.{secondLow, secondHigh};
 ghost use Rattle.unicode.specs.WellFormed.{sequenceAt};
+use crate::whole::is_continuation;
 use base::bytes::in_range;
 
 // After E0 and F0 lower bytes would be an overlong form.
@@ -40,13 +41,6 @@ fn is_second(first: u8, b: u8) -> bool
     in_range(second_low(first), second_high(first), b)
 }
 
-// Whether a byte may come after the second one, and after a first one of two.
-fn continues(b: u8) -> bool
-    ensures { λ r. ⌜ r ≡ within 0x80 0xBF b ⌝ }
-{
-    in_range(0x80, 0xbf, b)
-}
-
 fn two_at(s: &[u8], at: usize) -> usize
     requires { ⌜ (at < length (now s)) × (0x80 ≤ getD (now s) at 0) × (getD (now s) at 0 < 0xE0) ⌝ }
     ensures { λ r. ⌜ r ≡ sequenceAt (now (s .entry)) at ⌝ }
@@ -57,7 +51,7 @@ fn two_at(s: &[u8], at: usize) -> usize
     if s.len() - at < 2 {
         return 0;
     }
-    if continues(s[at + 1]) {
+    if is_continuation(s[at + 1]) {
         return 2;
     }
     0
@@ -70,7 +64,7 @@ fn three_at(s: &[u8], at: usize) -> usize
     if s.len() - at < 3 {
         return 0;
     }
-    if is_second(s[at], s[at + 1]) & continues(s[at + 2]) {
+    if is_second(s[at], s[at + 1]) & is_continuation(s[at + 2]) {
         return 3;
     }
     0
@@ -86,7 +80,7 @@ fn four_at(s: &[u8], at: usize) -> usize
     if s.len() - at < 4 {
         return 0;
     }
-    if is_second(s[at], s[at + 1]) & continues(s[at + 2]) & continues(s[at + 3]) {
+    if is_second(s[at], s[at + 1]) & is_continuation(s[at + 2]) & is_continuation(s[at + 3]) {
         return 4;
     }
     0

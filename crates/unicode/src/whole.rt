@@ -4,7 +4,7 @@ ghost use Prim.Native.Nat.{_+_, _-_, _≤_, _<_};
 ghost use lib.ListN.{length};
 ghost use Rattle.unicode.specs.Blocks.{isContinuation, ofOne, ofTwo, ofThree, allWhole, wholeAt, WholeRun, LastStart, Moved};
 
-fn is_continuation(b: u8) -> bool
+pub(crate) fn is_continuation(b: u8) -> bool
     ensures { λ r. ⌜ r ≡ isContinuation b ⌝ }
 {
     (0x80 <= b) & (b <= 0xbf)

@@ -29,29 +29,29 @@ shared-slice-read-is-second-2 c = search needs
 is-second-requires : tie.Need-is-second-requires
 is-second-requires c κs = search needs
 
-add-continues : tie.Need-add-continues
-add-continues c = search needs
+add-is-continuation : tie.Need-add-is-continuation
+add-is-continuation c = search needs
 
-shared-slice-read-continues : tie.Need-shared-slice-read-continues
-shared-slice-read-continues c = search needs
+shared-slice-read-is-continuation : tie.Need-shared-slice-read-is-continuation
+shared-slice-read-is-continuation c = search needs
 
-continues-requires : tie.Need-continues-requires
-continues-requires c κs = search needs
+is-continuation-requires : tie.Need-is-continuation-requires
+is-continuation-requires c κs = search needs
 
-add-continues-2 : tie.Need-add-continues-2
-add-continues-2 c = search needs
+add-is-continuation-2 : tie.Need-add-is-continuation-2
+add-is-continuation-2 c = search needs
 
-shared-slice-read-continues-2 : tie.Need-shared-slice-read-continues-2
-shared-slice-read-continues-2 c = search needs
+shared-slice-read-is-continuation-2 : tie.Need-shared-slice-read-is-continuation-2
+shared-slice-read-is-continuation-2 c = search needs
 
-continues-requires-2 : tie.Need-continues-requires-2
-continues-requires-2 c κs = search needs
+is-continuation-requires-2 : tie.Need-is-continuation-requires-2
+is-continuation-requires-2 c κs = search needs
 
 returns-3 : tie.Need-returns-3
-returns-3 c = law.four-by _ _ (c .before .before .before .before .before .before .before .before .before .before .before .before .pre .0) (c .before .before .before .before .before .before .before .before .before .before .before .before .pre .1) (c .before .before .before .before .before .before .before .before .before .before .before .before .pre .2) (c .before .before .before .before .before .before .before .before .before .if1 .left) (c .before .before .before .before .before .before .before .before .if2 .left) {t = true} (c .before .before .before .before .before .is-second .ensures) (c .before .before .before .continues .ensures) (c .before .continues2 .ensures) (c .if3 .taken)
+returns-3 c = law.four-by _ _ (c .before .before .before .before .before .before .before .before .before .before .before .before .pre .0) (c .before .before .before .before .before .before .before .before .before .before .before .before .pre .1) (c .before .before .before .before .before .before .before .before .before .before .before .before .pre .2) (c .before .before .before .before .before .before .before .before .before .if1 .left) (c .before .before .before .before .before .before .before .before .if2 .left) {t = true} (c .before .before .before .before .before .is-second .ensures) (c .before .before .before .is-continuation .ensures) (c .before .is-continuation2 .ensures) (c .if3 .taken)
 
 returns-4 : tie.Need-returns-4
-returns-4 c = law.four-by _ _ (c .before .before .before .before .before .before .before .before .before .before .before .before .pre .0) (c .before .before .before .before .before .before .before .before .before .before .before .before .pre .1) (c .before .before .before .before .before .before .before .before .before .before .before .before .pre .2) (c .before .before .before .before .before .before .before .before .before .if1 .left) (c .before .before .before .before .before .before .before .before .if2 .left) {t = false} (c .before .before .before .before .before .is-second .ensures) (c .before .before .before .continues .ensures) (c .before .continues2 .ensures) (c .if3 .left)
+returns-4 c = law.four-by _ _ (c .before .before .before .before .before .before .before .before .before .before .before .before .pre .0) (c .before .before .before .before .before .before .before .before .before .before .before .before .pre .1) (c .before .before .before .before .before .before .before .before .before .before .before .before .pre .2) (c .before .before .before .before .before .before .before .before .before .if1 .left) (c .before .before .before .before .before .before .before .before .if2 .left) {t = false} (c .before .before .before .before .before .is-second .ensures) (c .before .before .before .is-continuation .ensures) (c .before .is-continuation2 .ensures) (c .if3 .left)
 
 pub four-at-spec : {M : Type 1} → statement M
 four-at-spec =
@@ -65,11 +65,11 @@ four-at-spec =
     add-is-second
     shared-slice-read-is-second-2
     is-second-requires
-    add-continues
-    shared-slice-read-continues
-    continues-requires
-    add-continues-2
-    shared-slice-read-continues-2
-    continues-requires-2
+    add-is-continuation
+    shared-slice-read-is-continuation
+    is-continuation-requires
+    add-is-continuation-2
+    shared-slice-read-is-continuation-2
+    is-continuation-requires-2
     returns-3
     returns-4)

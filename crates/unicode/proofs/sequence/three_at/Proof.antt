@@ -22,20 +22,20 @@ shared-slice-read-is-second-2 c = search needs
 is-second-requires : tie.Need-is-second-requires
 is-second-requires c κs = search needs
 
-add-continues : tie.Need-add-continues
-add-continues c = search needs
+add-is-continuation : tie.Need-add-is-continuation
+add-is-continuation c = search needs
 
-shared-slice-read-continues : tie.Need-shared-slice-read-continues
-shared-slice-read-continues c = search needs
+shared-slice-read-is-continuation : tie.Need-shared-slice-read-is-continuation
+shared-slice-read-is-continuation c = search needs
 
-continues-requires : tie.Need-continues-requires
-continues-requires c κs = search needs
+is-continuation-requires : tie.Need-is-continuation-requires
+is-continuation-requires c κs = search needs
 
 returns-2 : tie.Need-returns-2
-returns-2 c = law.three-by _ _ ((c .before .before .before .before .before .before .before .before .pre) .0) ((c .before .before .before .before .before .before .before .before .pre) .1) ((c .before .before .before .before .before .before .before .before .pre) .2) (c .before .before .before .before .before .before .if1 .left) {t = true} (c .before .before .before .is-second .ensures) (c .before .continues .ensures) (c .if2 .taken)
+returns-2 c = law.three-by _ _ ((c .before .before .before .before .before .before .before .before .pre) .0) ((c .before .before .before .before .before .before .before .before .pre) .1) ((c .before .before .before .before .before .before .before .before .pre) .2) (c .before .before .before .before .before .before .if1 .left) {t = true} (c .before .before .before .is-second .ensures) (c .before .is-continuation .ensures) (c .if2 .taken)
 
 returns-3 : tie.Need-returns-3
-returns-3 c = law.three-by _ _ ((c .before .before .before .before .before .before .before .before .pre) .0) ((c .before .before .before .before .before .before .before .before .pre) .1) ((c .before .before .before .before .before .before .before .before .pre) .2) (c .before .before .before .before .before .before .if1 .left) {t = false} (c .before .before .before .is-second .ensures) (c .before .continues .ensures) (c .if2 .left)
+returns-3 c = law.three-by _ _ ((c .before .before .before .before .before .before .before .before .pre) .0) ((c .before .before .before .before .before .before .before .before .pre) .1) ((c .before .before .before .before .before .before .before .before .pre) .2) (c .before .before .before .before .before .before .if1 .left) {t = false} (c .before .before .before .is-second .ensures) (c .before .is-continuation .ensures) (c .if2 .left)
 
 pub three-at-spec : {M : Type 1} → statement M
 three-at-spec =
@@ -47,8 +47,8 @@ three-at-spec =
     add-is-second
     shared-slice-read-is-second-2
     is-second-requires
-    add-continues
-    shared-slice-read-continues
-    continues-requires
+    add-is-continuation
+    shared-slice-read-is-continuation
+    is-continuation-requires
     returns-2
     returns-3)

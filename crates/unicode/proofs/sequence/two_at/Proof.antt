@@ -17,20 +17,20 @@ sub-if2 c = search needs
 returns-2 : tie.Need-returns-2
 returns-2 c = law.two-short _ _ (c .before .before .before .before .pre .0) (c .before .before .before .before .pre .1) (c .before .before .before .before .pre .2) (c .if2 .taken)
 
-add-continues : tie.Need-add-continues
-add-continues c = search needs
+add-is-continuation : tie.Need-add-is-continuation
+add-is-continuation c = search needs
 
-shared-slice-read-continues : tie.Need-shared-slice-read-continues
-shared-slice-read-continues c = search needs
+shared-slice-read-is-continuation : tie.Need-shared-slice-read-is-continuation
+shared-slice-read-is-continuation c = search needs
 
-continues-requires : tie.Need-continues-requires
-continues-requires c κs = search needs
+is-continuation-requires : tie.Need-is-continuation-requires
+is-continuation-requires c κs = search needs
 
 returns-3 : tie.Need-returns-3
-returns-3 c = law.two-by _ _ (c .before .before .before .before .before .before .before .pre .0) (c .before .before .before .before .before .before .before .pre .1) (c .before .before .before .before .before .before .before .pre .2) (c .before .before .before .before .if1 .left) (c .before .before .before .if2 .left) {t = true} (c .before .continues .ensures) (c .if3 .taken)
+returns-3 c = law.two-by _ _ (c .before .before .before .before .before .before .before .pre .0) (c .before .before .before .before .before .before .before .pre .1) (c .before .before .before .before .before .before .before .pre .2) (c .before .before .before .before .if1 .left) (c .before .before .before .if2 .left) {t = true} (c .before .is-continuation .ensures) (c .if3 .taken)
 
 returns-4 : tie.Need-returns-4
-returns-4 c = law.two-by _ _ (c .before .before .before .before .before .before .before .pre .0) (c .before .before .before .before .before .before .before .pre .1) (c .before .before .before .before .before .before .before .pre .2) (c .before .before .before .before .if1 .left) (c .before .before .before .if2 .left) {t = false} (c .before .continues .ensures) (c .if3 .left)
+returns-4 c = law.two-by _ _ (c .before .before .before .before .before .before .before .pre .0) (c .before .before .before .before .before .before .before .pre .1) (c .before .before .before .before .before .before .before .pre .2) (c .before .before .before .before .if1 .left) (c .before .before .before .if2 .left) {t = false} (c .before .is-continuation .ensures) (c .if3 .left)
 
 pub two-at-spec : {M : Type 1} → statement M
 two-at-spec =
@@ -40,8 +40,8 @@ two-at-spec =
     returns
     sub-if2
     returns-2
-    add-continues
-    shared-slice-read-continues
-    continues-requires
+    add-is-continuation
+    shared-slice-read-is-continuation
+    is-continuation-requires
     returns-3
     returns-4)

@@ -1,11 +1,10 @@
 use mathlib.Core.Path.{refl}
 use Rattle.base.specs.Range.{within}
-use Rattle.unicode.specs.Blocks.{isContinuation}
 use Rattle.unicode.proofs.whole.is_continuation.Statement.{statement}
 use Rattle.unicode.proofs.whole.is_continuation.Tie as tie
 
 returns : tie.Need-returns
-unfolding isContinuation within
+unfolding within
 returns c = refl
 
 pub is-continuation-spec : {M : Type 1} → statement M
