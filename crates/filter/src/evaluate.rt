@@ -118,10 +118,10 @@ fn answer_of(x: Told) -> Answer
 // many filters walks an instance once, with `check_instance`, and evaluates each of them here. Of an instance of at most 65,535 bytes the steps can't overflow.
 pub fn evaluate_noted<'a>(
     query: &'a [u8],
-    start: QueryStart,
     table: &'a [u8],
     instance: &'a [u8],
     notes: &[usize],
+    start: QueryStart,
 ) -> Answer
     requires { ⌜ (Check.check (now query) (now table) ≡ Checked.Accepted) × (start ≡ queryStart (scan (now query))) × (length (now instance) ≤ 65535) ⌝ }
     ensures { λ r. ⌜ r ≡ evaluateNoted (now (query .entry)) (now (table .entry)) (now (instance .entry)) (now (notes .entry)) ⌝ }
@@ -134,10 +134,10 @@ pub fn evaluate_noted<'a>(
 // notes for each: what they hold before doesn't matter.
 pub fn evaluate_accepted<'a>(
     query: &'a [u8],
-    start: QueryStart,
     table: &'a [u8],
     instance: &'a [u8],
     notes: &mut [usize],
+    start: QueryStart,
 ) -> Answer
     requires { ⌜ (Check.check (now query) (now table) ≡ Checked.Accepted) × (start ≡ queryStart (scan (now query))) × (128 ≤ length (now notes)) ⌝ }
     ensures { λ r. ⌜ (r ≡ Evaluate.evaluate (now (query .entry)) (now (table .entry)) (now (instance .entry))) × (now (notes .exit) ≡ notesAfter (now (table .entry)) (now (instance .entry)) (now (notes .entry))) × (length (now (notes .exit)) ≡ length (now (notes .entry))) ⌝ }
@@ -147,7 +147,7 @@ pub fn evaluate_accepted<'a>(
             cause: Cause::Instance(cause),
             place,
         }),
-        Conformity::Conforming => evaluate_noted(query, start, table, instance, notes),
+        Conformity::Conforming => evaluate_noted(query, table, instance, notes, start),
     }
 }
 
@@ -159,7 +159,7 @@ pub fn evaluate<'a>(query: &'a [u8], table: &'a [u8], instance: &'a [u8]) -> Ans
         Checked::Refused(r) => Answer::Refused(r),
         Checked::Accepted => {
             let mut notes = [0usize; NOTES];
-            evaluate_accepted(query, open_query(query), table, instance, &mut notes)
+            evaluate_accepted(query, table, instance, &mut notes, open_query(query))
         }
     }
 }

@@ -49,10 +49,10 @@ fn mark_instances<'a>(query: &'a [u8], table: &'a [u8], run: &'a [u8], marks: &m
             } => {
                 let answer = evaluate_accepted(
                     query,
-                    opened,
                     table,
                     piece(run, start, length),
                     &mut notes,
+                    opened,
                 );
                 marks[i] = mark_of(answer);
                 totals = count_answer(totals, answer);

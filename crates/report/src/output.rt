@@ -54,10 +54,10 @@ fn write_answers<'a>(out: &mut [u8], query: &'a [u8], table: &'a [u8], run: &'a 
             } => {
                 let answer = evaluate_accepted(
                     query,
-                    opened,
                     table,
                     piece(run, start, length),
                     &mut notes,
+                    opened,
                 );
                 count += 1;
                 place = write_answer(out, place, count, answer);

@@ -1,14 +1,15 @@
 -- Blocks of a text: the walk over its sequences, and ASCII bytes, which are passed as many at a time as one likes. Assumes nothing.
 use Prim.Native.Nat.{ℕ, zero, suc, _+_, _-_, _≤_, _<_, min}
 use mathlib.Core.List.{List, [], _∷_}
-use mathlib.Core.Bool.{Bool, true, false, _&&_, _||_}
-use mathlib.Core.Path.{_≡_, refl, sym, _∙_}
+use mathlib.Core.Bool.{Bool, true, false, not, _&&_, _||_}
+use mathlib.Core.Path.{_≡_, refl, sym, ap, _∙_}
 use native.Mathlib.Numerals.{add-one}
 use native.Mathlib.Nat.{add-zero}
 use native.Mathlib.Omega.{arith}
-use lib.ListN.{length, getD}
+use lib.Seq.{drop-drop, take-all}
+use lib.ListN.{length, getD, take, drop, length-drop}
 use lib.Dec.{ltb, leb, eqb}
-use borrow.Author.Tests.{ltb-true, ltb-false, leb-true, eqb-true, eqb-false, eq-eqb, ne-eqb, lt-ltb}
+use borrow.Author.Tests.{ltb-true, ltb-false, leb-true, eqb-true, eqb-false, eq-eqb, ne-eqb, lt-ltb, not-false}
 use Rattle.base.specs.Part.{byteAt}
 use Rattle.base.specs.Pick.{pick}
 use Rattle.base.proofs.Says.{and-both, or-neither, apart}
@@ -43,22 +44,22 @@ ascii-of s at (suc n) h = rw (ascii-of s at n (λ i l. h i (omega arith))) (h n 
 ascii-at : (s : List ℕ) (from n i : ℕ) → allAscii s from n ≡ true → from ≤ i → i < from + n → ltb (byteAt s i) 0x80 ≡ true
 ascii-at s from n i e l m = let k : from + (i - from) ≡ i = omega arith in rw k at (ascii-in s from n (i - from) e (omega arith))
 
-module _ (s : List ℕ) (stop n : ℕ) where
-  pub ends-block : {r : Bool} → 16 ≤ stop → n < 16 → r ≡ allAscii s (stop - 16) 16 → EndsAscii s stop n r
+module _ (s : List ℕ) (n : ℕ) where
+  pub ends-block : {r : Bool} → 16 ≤ length s → n < 16 → r ≡ allAscii s (length s - 16) 16 → EndsAscii s n r
   ends-block long few e told within =
-      ascii-of s (stop - n) n (λ i l. ascii-at s (stop - 16) 16 (stop - n + i) (sym e ∙ told) (omega arith) (omega arith))
+      ascii-of s (length s - n) n (λ i l. ascii-at s (length s - 16) 16 (length s - n + i) (sym e ∙ told) (omega arith) (omega arith))
 
-  pub ends-two : (k : ℕ) {p q : Bool} → k ≤ stop → stop ≤ k + k → p ≡ allAscii s 0 k → q ≡ allAscii s (stop - k) k → EndsAscii s stop n (p && q)
-  ends-two k {p} {q} long short e f told within = ascii-of s (stop - n) n (λ i l. go (stop - n + i) (omega arith) (ltb (stop - n + i) k) refl)
+  pub ends-two : (k : ℕ) {p q : Bool} → k ≤ length s → length s ≤ k + k → p ≡ allAscii s 0 k → q ≡ allAscii s (length s - k) k → EndsAscii s n (p && q)
+  ends-two k {p} {q} long short e f told within = ascii-of s (length s - n) n (λ i l. go (length s - n + i) (omega arith) (ltb (length s - n + i) k) refl)
     where
       both : (p ≡ true) × (q ≡ true)
       both = and-both p q told
 
-      go : (j : ℕ) → j < stop → (t : Bool) → ltb j k ≡ t → ltb (byteAt s j) 0x80 ≡ true
+      go : (j : ℕ) → j < length s → (t : Bool) → ltb j k ≡ t → ltb (byteAt s j) 0x80 ≡ true
       go j l true h = ascii-at s 0 k j (sym e ∙ both .0) (omega arith) (omega (arith, ltb-true j k h))
-      go j l false h = ascii-at s (stop - k) k j (sym f ∙ both .1) (omega (arith, ltb-false j k h)) (omega arith)
+      go j l false h = ascii-at s (length s - k) k j (sym f ∙ both .1) (omega (arith, ltb-false j k h)) (omega arith)
 
-  pub ends-untold : EndsAscii s stop n false
+  pub ends-untold : EndsAscii s n false
   ends-untold told within = absurd (apart told)
 
 -- ---- the walk
@@ -116,13 +117,6 @@ module _ (s : List ℕ) (at stop n : ℕ) (some : 0 < n) (enough : n ≤ stop - 
   block-passed =
       record { reaches = ascii-reached s at n (omega arith) (sym test ∙ all); begins = omega arith; ends = omega arith; stays = λ e. absurd (omega arith) }
 
-pub end-passed : (s : List ℕ) (at stop : ℕ) → at < stop → stop ≤ length s → {r : Bool} → EndsAscii s stop (stop - at) r → r ≡ true → Passed s at stop stop
-end-passed s at stop some within ends told =
-    let e : stop - (stop - at) ≡ at = omega arith in
-    let n : at + (stop - at) ≡ stop = omega arith in
-    let all = rw e at (ends told (omega arith)) in
-    rw n at (block-passed s at stop (stop - at) (omega arith) (omega arith) within (sym all) refl)
-
 pub moved-passed : (s : List ℕ) (at stop next : ℕ) → Moved s at stop next → (next ≡ at → ⊥) → Passed s at stop next
 moved-passed s at stop next m n = record { reaches = m .reaches; begins = m .begins; ends = m .ends; stays = λ e. absurd (n e) }
 
@@ -174,11 +168,63 @@ module _ (s : List ℕ) (at stop end next : ℕ) (until : end ≡ min (length s)
   pub walk-ends : end ≤ next → Walked s at stop next
   walk-ends h = record { reaches = walk; begins = begins; ends = omega arith; stuck = λ l k. sym (past-end s next (omega arith)) }
 
--- the check
-module _ (s : List ℕ) {end : ℕ} (walk : Walked s 0 (length s) end) where
-  pub ill-formed-found : end < length s → IllFormed end ≡ firstIllFormed s
-  ill-formed-found h =
-      sym (reaches-same s 0 end (walk .reaches) (omega arith) ∙ ill-formed-at s end ∙ rw (lt-ltb _ _ h, eq-eqb _ _ (walk .stuck h (sequence-fits s end))))
+-- the check: ASCII first, then the walk
+module _ (s : List ℕ) (next : ℕ) (ends : next ≤ length s) (walk : Reaches s 0 next) where
+  pub ascii-stops : Moved s 0 (length s) next
+  ascii-stops = record { reaches = walk; begins = omega arith; ends = ends }
 
-  pub well-formed-found : length s ≤ end → WellFormed ≡ firstIllFormed s
-  well-formed-found h = well-formed-end s end (reaches-same s 0 end (walk .reaches) (omega (arith, walk .ends))) h
+  ascii-further : (n : ℕ) → n ≤ length s - next → allAscii s next n ≡ true → Reaches s 0 (next + n)
+  ascii-further n h e = reaches-joined walk (ascii-reached s next n h e)
+
+  pub ascii-next : 16 ≤ length s - next → {r : Bool} → r ≡ allAscii s next 16 → not r ≡ false → Reaches s 0 (next + 16)
+  ascii-next h e t = ascii-further 16 h (sym e ∙ not-false _ t)
+
+  pub ascii-ends : {r : Bool} → EndsAscii s (length s - next) r → r ≡ true → Moved s 0 (length s) (length s)
+  ascii-ends e told =
+      let from : length s - (length s - next) ≡ next = omega arith in
+      let to : next + (length s - next) ≡ length s = omega arith in
+      let all = rw from at (e told (omega arith)) in
+      record { reaches = rw to at (ascii-further (length s - next) (omega arith) all); begins = omega arith; ends = omega arith }
+
+-- a sequence of what is left of a text is the text's
+sequence-dropped : (s : List ℕ) (k p : ℕ) → sequenceAt (drop k s) p ≡ sequenceAt s (k + p)
+unfolding sequenceAt
+sequence-dropped s k p = ap (sequenceIn table) (drop-drop p k s)
+
+reaches-dropped : (s : List ℕ) (k : ℕ) {p : ℕ} → Reaches (drop k s) 0 p → Reaches s k (k + p)
+reaches-dropped s k here = rw (add-zero k) here
+reaches-dropped s k (onward {p} r z) =
+    let n = sequenceAt (drop k s) p in
+    let e : k + p + n ≡ k + (p + n) = omega arith in
+    rw e at (reaches-on s k (k + p) n (reaches-dropped s k r) (sequence-dropped s k p) z)
+
+module _ (s : List ℕ) {start : ℕ} (ascii : Moved s 0 (length s) start) where
+  pub ascii-found : length s ≤ start → WellFormed ≡ firstIllFormed s
+  ascii-found h = well-formed-end s start (reaches-same s 0 start (ascii .reaches) (ascii .ends)) h
+
+  -- what is left, as the code cuts it off
+  module _ {end : ℕ} (walk : Walked (take (length s - start) (drop start s)) 0 (length (take (length s - start) (drop start s))) end) where
+    left : length (drop start s) ≡ length s - start
+    left = length-drop start s
+
+    all-left : take (length s - start) (drop start s) ≡ drop start s
+    all-left = take-all (length s - start) (drop start s) (omega (arith, left))
+
+    further : Walked (drop start s) 0 (length (drop start s)) end
+    further = rw all-left at walk
+
+    same : illFormedFrom s 0 ≡ illFormedFrom s (start + end)
+    same =
+        reaches-same s 0 (start + end) (reaches-joined (ascii .reaches) (reaches-dropped s start (further .reaches))) (omega (arith, left, further .ends, ascii .ends))
+
+    pub ill-formed-found : end < length (take (length s - start) (drop start s)) → IllFormed (start + end) ≡ firstIllFormed s
+    ill-formed-found h =
+        let more : end < length (drop start s) = rw all-left at h in
+        let none : sequenceAt s (start + end) ≡ 0 = sym (sequence-dropped s start end) ∙ further .stuck more (sequence-fits (drop start s) end) in
+        let inside : start + end < length s = omega (arith, left, more) in
+        sym (same ∙ ill-formed-at s (start + end) ∙ rw (lt-ltb _ _ inside, eq-eqb _ _ none))
+
+    pub well-formed-found : length (take (length s - start) (drop start s)) ≤ end → WellFormed ≡ firstIllFormed s
+    well-formed-found h =
+        let over : length (drop start s) ≤ end = rw all-left at h in
+        well-formed-end s (start + end) same (omega (arith, left, over))

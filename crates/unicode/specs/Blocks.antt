@@ -14,9 +14,9 @@ unfoldable pub allAscii : List ℕ → ℕ → ℕ → Bool
 allAscii s at zero = true
 allAscii s at (suc n) = allAscii s at n && ltb (byteAt s (at + n)) 0x80
 
--- the last `n` bytes before `stop` are, if so told
-abbrev pub EndsAscii : List ℕ → ℕ → (n : ℕ) → Bool → Type 0
-EndsAscii s stop n told = told ≡ true → n ≤ stop → allAscii s (stop - n) n ≡ true
+-- a text's last `n` bytes are, if so told
+abbrev pub EndsAscii : List ℕ → (n : ℕ) → Bool → Type 0
+EndsAscii s n told = told ≡ true → n ≤ length s → allAscii s (length s - n) n ≡ true
 
 -- the walk over whole sequences comes from `at` to a place
 pub data Reaches (s : List ℕ) (at : ℕ) : ℕ → Type 0 where

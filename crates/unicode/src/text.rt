@@ -4,7 +4,7 @@ ghost use mathlib.Core.Path.{_≡_};
 ghost use Prim.Native.Nat.{_-_, _≤_, _<_, min};
 ghost use lib.ListN.{length};
 ghost use Rattle.unicode.specs.WellFormed.{firstIllFormed};
-ghost use Rattle.unicode.specs.Blocks.{allAscii, EndsAscii, Passed, Walked};
+ghost use Rattle.unicode.specs.Blocks.{allAscii, EndsAscii, Passed, Walked, Moved};
 
 pub enum Utf8 {
     WellFormed,
@@ -41,33 +41,31 @@ fn pass_sequences(s: &[u8], at: usize, stop: usize) -> usize
     next
 }
 
-// Whether the last `left` bytes before `stop` are ASCII, by blocks that may overlap; where fewer than 4 bytes stand before it isn't told.
-fn ends_ascii(s: &[u8], stop: usize, left: usize) -> bool
-    requires { ⌜ (left < 16) × (stop ≤ length (now s)) ⌝ }
-    ensures { λ r. ⌜ EndsAscii (now (s .entry)) stop left r ⌝ }
+// Whether the last `left` bytes are ASCII, by blocks that may overlap; of a text of fewer than 4 bytes it isn't told.
+fn ends_ascii(s: &[u8], left: usize) -> bool
+    requires { ⌜ left < 16 ⌝ }
+    ensures { λ r. ⌜ EndsAscii (now (s .entry)) left r ⌝ }
 {
-    if 16 <= stop {
-        return all_ascii(s, stop - 16, 16);
+    let n = s.len();
+    if 16 <= n {
+        return all_ascii(s, n - 16, 16);
     }
-    if 8 <= stop {
-        return all_ascii(s, 0, 8) & all_ascii(s, stop - 8, 8);
+    if 8 <= n {
+        return all_ascii(s, 0, 8) & all_ascii(s, n - 8, 8);
     }
-    if 4 <= stop {
-        return all_ascii(s, 0, 4) & all_ascii(s, stop - 4, 4);
+    if 4 <= n {
+        return all_ascii(s, 0, 4) & all_ascii(s, n - 4, 4);
     }
     false
 }
 
-// The end of the next block: 16 bytes of ASCII or fewer at the end; blocks of sequences of up to three bytes; or sequences of 64 bytes or so, so that a text with many others is seldom tried in vain.
+// The end of the next block: 16 bytes of ASCII; blocks of sequences of up to three bytes; or sequences of 64 bytes or so, so that a text with many others is seldom tried in vain.
 fn pass_block(s: &[u8], at: usize, stop: usize) -> usize
     requires { ⌜ (at < stop) × (stop ≤ length (now s)) ⌝ }
     ensures { λ r. ⌜ Passed (now (s .entry)) at stop r ⌝ }
 {
     let left = stop - at;
     if left < 16 {
-        if ends_ascii(s, stop, left) {
-            return stop;
-        }
         return pass_sequences(s, at, stop);
     }
     if all_ascii(s, at, 16) {
@@ -105,13 +103,35 @@ pub fn pass_text(s: &[u8], at: usize, stop: usize) -> usize
     next
 }
 
+// The end of the ASCII with which a text begins, by blocks; most texts have nothing else.
+fn pass_ascii(s: &[u8]) -> usize
+    ensures { λ r. ⌜ Moved (now (s .entry)) 0 (length (now (s .entry))) r ⌝ }
+{
+    let mut next = 0;
+    while 16 <= s.len() - next {
+        if !all_ascii(s, next, 16) {
+            return next;
+        }
+        next += 16;
+    }
+    if ends_ascii(s, s.len() - next) {
+        return s.len();
+    }
+    next
+}
+
 // Whether a text is well-formed, with the first byte of its first ill-formed sequence if it isn't.
 pub fn check_utf8(s: &[u8]) -> Utf8
     ensures { λ r. ⌜ r ≡ firstIllFormed (now (s .entry)) ⌝ }
 {
-    let end = pass_text(s, 0, s.len());
-    if end < s.len() {
-        return Utf8::IllFormed(end);
+    let start = pass_ascii(s);
+    if s.len() <= start {
+        return Utf8::WellFormed;
+    }
+    let rest = &s[start..];
+    let end = pass_text(rest, 0, rest.len());
+    if end < rest.len() {
+        return Utf8::IllFormed(start + end);
     }
     Utf8::WellFormed
 }

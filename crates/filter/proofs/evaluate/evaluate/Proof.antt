@@ -34,8 +34,8 @@ evaluate-spec =
     check-requires
     enum-known-r
     enum-told
-    open-query-requires
     slice-aggregate-evaluate-accepted
+    open-query-requires
     evaluate-accepted-requires
     returns
     returns-2)
