@@ -10,8 +10,8 @@
    may overlap the other bytes of the call; these may overlap one another.
 
    A call takes less than 16 KiB of stack. Only the groups of a LIKE pattern, at most 8 inside one another, make it call
-   deeper. Measured were at most 14,479 bytes below the caller for fql_conjoin, 11,167 for fql_watch, 11,111 for fql_mark,
-   10,879 for fql_evaluate, 9,695 for fql_check and 512 for fql_fault_text. docs/PERFORMANCE.md has the time of the slowest
+   deeper. Measured were at most 13,343 bytes below the caller for fql_conjoin, 10,031 for fql_watch, 9,975 for fql_mark,
+   9,743 for fql_evaluate, 8,559 for fql_check and 512 for fql_fault_text. docs/PERFORMANCE.md has the time of the slowest
    inputs that are known.
 
    Link with libfql_export.a, which `rt staticlib fql_export` writes into target/staticlib. */
