@@ -5,7 +5,7 @@ ghost use Rattle.conjunction.specs.Conjoin.{number_of, query_of};
 use filter::refusal::Cause;
 
 // First, Second: the check refuses that query. Size: the result would have too many comparisons or bytes. Buffer: the result is longer than the buffer.
-#[derive(Drop)]
+#[derive(Clone, Copy)]
 pub enum ConjoinCause {
     First(Cause),
     Second(Cause),

@@ -1,4 +1,5 @@
 // Datetimes of 01, "Datetime (DSP0004)", with the unknown digits of 02 Q-6: the moments of a timestamp, the lengths of an interval, and their order.
+#![tactic(auto)]
 pub mod calendar;
 pub mod days_before;
 pub mod exact;
@@ -10,14 +11,14 @@ pub mod text;
 pub mod unknown;
 
 // From a lowest to a highest moment or length, in microseconds.
-#[derive(Drop)]
+#[derive(Clone, Copy)]
 pub struct Span {
     pub lowest: i64,
     pub highest: i64,
 }
 
 // What a datetime's text says: a timestamp's moments or an interval's lengths.
-#[derive(Drop)]
+#[derive(Clone, Copy)]
 pub enum Datetime {
     Timestamp(Span),
     Interval(Span),

@@ -8,7 +8,7 @@ use syntax::fault::Cause as TextCause;
 use table::validate::TableFault;
 
 // Of the table, of the query's text, of a comparison, of the instance.
-#[derive(Drop)]
+#[derive(Clone, Copy)]
 pub enum Cause {
     Table(TableFault),
     Text(TextCause),
@@ -17,7 +17,7 @@ pub enum Cause {
 }
 
 // 01's place: a byte offset.
-#[derive(Drop)]
+#[derive(Clone, Copy)]
 pub struct Refusal {
     pub cause: Cause,
     pub place: usize,
@@ -30,7 +30,7 @@ pub enum Checked {
 }
 
 // What an evaluation comes to; an answer with its steps.
-#[derive(Drop)]
+#[derive(Clone, Copy)]
 pub enum Answer {
     Included(usize),
     Excluded(usize),

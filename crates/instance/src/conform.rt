@@ -10,7 +10,7 @@ use crate::notes::note;
 use base::bytes::piece;
 use record::read::RecordAt;
 
-#[derive(Drop)]
+#[derive(Clone, Copy)]
 pub enum InstanceFault {
     TooLong,
     Nonconforming,

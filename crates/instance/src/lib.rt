@@ -1,4 +1,5 @@
 // Instances: whether one conforms to a table, and where each property's record starts.
+#![tactic(auto)]
 pub mod array;
 pub mod body;
 pub mod conform;

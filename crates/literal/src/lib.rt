@@ -1,4 +1,5 @@
 // Literals: what a token stands for.
+#![tactic(auto)]
 pub mod integer;
 pub mod real_literal;
 pub mod sort;

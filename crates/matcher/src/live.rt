@@ -7,7 +7,7 @@ use crate::recent::{CLOSED, PLACES, SIMPLE, recent_place};
 use pattern::fragment::Fragment;
 use pattern::links::gather;
 
-#[derive(Drop)]
+#[derive(Clone, Copy)]
 pub struct Live {
     pub set: u64, // the live symbols; none before the first character
     pub onward: u64, // the symbols that may come next

@@ -2,7 +2,7 @@
 ghost use Rattle.std.specs.Prelude.{◌≡◌};
 ghost use Rattle.operand.specs.Cause.{number_of};
 
-#[derive(Drop)]
+#[derive(Clone, Copy)]
 pub enum Cause {
     Name,
     Shape,

@@ -1,4 +1,5 @@
 // Where the values of a comparison stand: in records, in array bodies, in the query; and NOT, for the forms that take it.
+#![tactic(auto)]
 pub mod negation;
 
 ghost use Rattle.std.specs.Prelude.{◌≡◌};
@@ -20,7 +21,7 @@ use value::item::Item;
 use value::read::{item_at, read_item};
 
 // The query, the instance, or the part of the instance that has the second number of bytes at the first.
-#[derive(Drop)]
+#[derive(Clone, Copy)]
 pub enum Source {
     Query,
     Instance,

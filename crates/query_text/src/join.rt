@@ -7,7 +7,7 @@ use terminal::operator::{BoolOp, Joining};
 use token::{Punctuation, Token, TokenKind};
 
 // The end, bool-op inside an fql-expr, or ")" bool-op "(".
-#[derive(Drop)]
+#[derive(Clone, Copy)]
 pub enum Join {
     Last,
     Inner(BoolOp),

@@ -10,7 +10,7 @@ use syntax::left_side::skip_if;
 use token::{Punctuation, Token, TokenKind};
 
 // The first comparison's first token, and whether its fql-expr is bracketed.
-#[derive(Drop)]
+#[derive(Clone, Copy)]
 pub struct QueryStart {
     pub grouped: bool,
     pub token: Token,

@@ -3,7 +3,7 @@ ghost use Rattle.std.specs.Prelude.{◌≡◌};
 ghost use Rattle.record.specs.Kind.{scalar_kind, kind_of, row, same_row};
 
 // The families of types; integers and reals come in widths.
-#[derive(Drop)]
+#[derive(Clone, Copy)]
 pub enum Family {
     Boolean,
     Integer,
@@ -16,7 +16,7 @@ pub enum Family {
 }
 
 // A value's type: its family, the bytes of its body where their number is fixed (else 0), and whether an integer has a sign.
-#[derive(Drop)]
+#[derive(Clone, Copy)]
 pub struct ValueType {
     pub family: Family,
     pub width: usize,

@@ -1,1 +1,2 @@
 // No code: a query's tokens and the rule of names have the same reserved words.
+#![tactic(auto)]

@@ -1,11 +1,12 @@
 // Runs of bytes of one class in a query's text.
+#![tactic(auto)]
 ghost use Rattle.std.specs.Prelude.{◌≡◌, ℕ, ◌-◌, ◌≤◌, length};
 ghost use Rattle.scan.specs.Class.{white, in_class, run};
 
 use base::digit::digit_of;
 use record::name::is_name_byte;
 
-#[derive(Drop)]
+#[derive(Clone, Copy)]
 pub enum Class {
     White,
     Word,

@@ -1,4 +1,5 @@
 // AND before OR, from left to right, with the rest of a chain skipped once it is decided.
+#![tactic(auto)]
 ghost use Rattle.std.specs.Prelude.{◌≡◌};
 ghost use Rattle.query_text.specs.Tree.{live, total, step};
 ghost use Rattle.short_circuit.specs.Walk.{state_of, initial};
@@ -7,7 +8,7 @@ use query_text::join::Join;
 use terminal::operator::BoolOp;
 
 // What the closed and the open chains have come to so far, outermost first.
-#[derive(Drop)]
+#[derive(Clone, Copy)]
 pub struct Chains {
     pub ors: bool,
     pub ands: bool,

@@ -3,7 +3,7 @@ ghost use Rattle.std.specs.Prelude.{◌≡◌};
 ghost use Rattle.syntax.specs.Scan.{limited};
 
 // 01's numbers 1, 10, 11 and 12.
-#[derive(Drop)]
+#[derive(Clone, Copy)]
 pub enum Cause {
     Length,
     Encoding,

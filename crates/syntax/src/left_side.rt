@@ -8,7 +8,7 @@ use terminal::quantifier::Quantifier;
 use token::{Reserved, Token, TokenKind};
 
 // It starts where the comparison does, NOT, ANY and EVERY included.
-#[derive(Drop)]
+#[derive(Clone, Copy)]
 pub struct LeftSide {
     pub start: usize,
     pub negated: bool,

@@ -7,7 +7,7 @@ use base::order::Operator;
 use terminal::operator::Comparing;
 use token::{Reserved, Token, TokenKind};
 
-#[derive(Drop)]
+#[derive(Clone, Copy)]
 pub enum Operation {
     Compare(Operator),
     Like,

@@ -6,7 +6,7 @@ ghost use Rattle.syntax.specs.Property.{span_of, first_name, one_more, dotted, p
 use token::{Punctuation, Token, TokenKind};
 
 // A name's place in the text.
-#[derive(Drop)]
+#[derive(Clone, Copy)]
 pub struct Span {
     pub start: usize,
     pub end: usize,
@@ -14,7 +14,7 @@ pub struct Span {
 
 // Of a path's names the first two can mean something: the property, or the class and the property.
 // The second is empty where there is one name only.
-#[derive(Drop)]
+#[derive(Clone, Copy)]
 pub struct Path {
     pub first: Span,
     pub second: Span,
@@ -22,7 +22,7 @@ pub struct Path {
 }
 
 // "[" index "]", with the index's token.
-#[derive(Drop)]
+#[derive(Clone, Copy)]
 pub enum Index {
     Whole,
     At(Token),

@@ -10,7 +10,7 @@ use base::order::Operator;
 use token::{Punctuation, Token, TokenKind};
 
 // Elements: the start of the array literal, how many there are, and its end.
-#[derive(Drop)]
+#[derive(Clone, Copy)]
 pub enum RightSide {
     Literal(Token),
     Elements(usize, usize, usize),

@@ -10,7 +10,7 @@ use crate::hash::{has_hash, hash_of};
 use record::kind::Kind;
 use record::read::RecordAt;
 
-#[derive(Drop)]
+#[derive(Clone, Copy)]
 pub enum TableFault {
     Malformed,
     NameTwice,

@@ -7,7 +7,7 @@ use base::order::Operator;
 use token::{Reserved, Token, TokenKind};
 
 // bool-op
-#[derive(Drop)]
+#[derive(Clone, Copy)]
 pub enum BoolOp {
     And,
     Or,
@@ -19,7 +19,7 @@ pub enum Comparing {
     NoOperator,
 }
 
-#[derive(Drop)]
+#[derive(Clone, Copy)]
 pub enum Joining {
     With(BoolOp),
     NoBoolOp,

@@ -6,7 +6,7 @@ use crate::kind::is_kind;
 use token::{Reserved, Token, TokenKind};
 
 // ANY, EVERY, or neither.
-#[derive(Drop)]
+#[derive(Clone, Copy)]
 pub enum Quantifier {
     Single,
     Any,

@@ -1,4 +1,5 @@
 // The tokens of a query, each the longest that fits.
+#![tactic(auto)]
 pub mod first;
 pub mod literals;
 pub mod longest;
@@ -13,7 +14,7 @@ use crate::reader::{moved_past, next_token, reader_at};
 use base::order::Operator;
 
 // The reserved words of 000 5.3.1.
-#[derive(Drop)]
+#[derive(Clone, Copy)]
 pub enum Reserved {
     And,
     Any,
@@ -27,7 +28,7 @@ pub enum Reserved {
 }
 
 // decimal-literal, binary-literal, hex-literal, real-literal.
-#[derive(Drop)]
+#[derive(Clone, Copy)]
 pub enum Form {
     Decimal,
     Binary,
@@ -36,7 +37,7 @@ pub enum Form {
 }
 
 // `(` `)` `[` `]` `{` `}` `,` `.`
-#[derive(Drop)]
+#[derive(Clone, Copy)]
 pub enum Punctuation {
     Open,
     Close,
@@ -49,7 +50,7 @@ pub enum Punctuation {
 }
 
 // NoToken: what stands there is no token, or a word or number that touches another.
-#[derive(Drop)]
+#[derive(Clone, Copy)]
 pub enum TokenKind {
     End,
     NoToken,
@@ -62,7 +63,7 @@ pub enum TokenKind {
 }
 
 // A token's bytes are those from `start` up to `end`.
-#[derive(Drop)]
+#[derive(Clone, Copy)]
 pub struct Token {
     pub kind: TokenKind,
     pub start: usize,

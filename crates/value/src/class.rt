@@ -5,7 +5,7 @@ ghost use Rattle.value.specs.Plain.{is_in, same_in, common_in, Common};
 use crate::plain::{both_left, is_plain};
 
 // Any byte; or those from the blank to `high` but quote and backslash.
-#[derive(Drop)]
+#[derive(Clone, Copy)]
 pub struct Class {
     pub any: bool,
     pub high: u8,

@@ -6,7 +6,7 @@ use crate::unit::Form;
 use base::integer::Whole;
 use datetime::Datetime;
 
-#[derive(Drop)]
+#[derive(Clone, Copy)]
 pub enum Sort {
     Text,
     Octets,
@@ -14,7 +14,7 @@ pub enum Sort {
 }
 
 // The units, from the place `at` on, of the part of a slice that has `length` bytes at `start`.
-#[derive(Drop)]
+#[derive(Clone, Copy)]
 pub struct Sequence {
     pub sort: Sort,
     pub form: Form,
@@ -23,7 +23,7 @@ pub struct Sequence {
     pub at: usize,
 }
 
-#[derive(Drop)]
+#[derive(Clone, Copy)]
 pub enum Item {
     Null,
     Truth(bool),

@@ -12,7 +12,7 @@ use unicode::sequence::sequence_at;
 
 // How the units stand in a slice: bytes as they are, the characters of UTF-8, the one character of a char16, bytes as pairs of hex digits, the characters of a
 // string literal from the place after its quote on, and the UTF-8 of these, of which the first bytes of the first character are skipped.
-#[derive(Drop)]
+#[derive(Clone, Copy)]
 pub enum Form {
     Bytes,
     Utf8,

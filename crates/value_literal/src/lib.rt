@@ -1,4 +1,5 @@
 // Literals of a query as values.
+#![tactic(auto)]
 pub mod datetime_text;
 
 ghost use Rattle.std.specs.Prelude.{◌≡◌, ◌-◌, length};

@@ -1,4 +1,0 @@
-pub mod Accepted
-pub mod Tokens
-pub mod ReadAgain
-pub mod Defaults
