@@ -25,6 +25,8 @@ SPAN = re.compile(r"(`+)(?:[^\n`]|\n(?!\s*\n))*?\1")
 RUST = re.compile(r"""//[^\n]*|/\*.*?\*/|b?"(?:\\.|[^"\\])*"|b?'(?:\\x..|\\.|[^'\\])'|'?\w+|\s+|.""", re.S)
 CLAUSE = re.compile(r"(?:requires|ensures)\s*\*?\s*(?:\w+\s*)?\{|ghost\s*(?:\w+\s*(?::\s*|=\s*))?\{")
 GHOST_USE = re.compile(r"ghost\s+use\b[^;]*;")
+ALIAS = re.compile(r"(?m)^use (?:\S+\.)?([^\s.]+) as (\S+)$")
+MADE = re.compile(r"(Tie|Reads|Kinds|Lts\S*|Statement|Code|TheVariants)$")
 FENCE = re.compile(r"^```[^\n]*\n(.*?)^```$", re.S | re.M)
 
 
@@ -71,6 +73,7 @@ def table():
 
 class Speller:
     def __init__(self, rows):
+        self.modules = set()
         self.all = {old: new for old, new, where in rows if where == "all"}
         self.proofs = {**self.all, **{old: new for old, new, where in rows if where == "proofs"}}
 
@@ -79,7 +82,7 @@ class Speller:
             word = m[0]
             if is_proof and text[m.start() - 1 : m.start()] == ".":
                 head = re.search(rf"({WORD})\.$", text[max(0, m.start() - 200) : m.start()])
-                if head and not head[1][0].isupper():
+                if head and not head[1][0].isupper() and head[1] not in self.modules:
                     return word
             bare = word.rstrip("'′")
             return names.get(word) or (names[bare] + word[len(bare) :] if bare in names else word)
@@ -91,6 +94,7 @@ class Speller:
 
     def antt(self, text, is_proof=False):
         names, out, at = self.proofs if is_proof else self.all, [], 0
+        self.modules = {m[2] for m in ALIAS.finditer(text) if not MADE.match(m[1])}
         for m in QUIET.finditer(text):
             out += [self.words(text[at : m.start()], names, is_proof), m[0] if m[0][0] == '"' else self.comment(m[0], names)]
             at = m.end()

@@ -105,91 +105,91 @@ every_one :
     × (results conjunctions.outcome conjunctions.calls ≡ expected conjunctions.calls)
 unfolding
     of_int of_bits mul div neg round lt eq base-walk.walk
-    base-digit.digitOf base-digit.allDigits base-digit.value_of base-digit.sizeUnder
-    base-little-endian.unsigned base-little-endian.twosComplement
-    base-order.orderOfWhole
-    base-part.sameBytes
+    base-digit.digit_of base-digit.all_digits base-digit.value_of base-digit.size_under
+    base-little-endian.unsigned base-little-endian.twos_complement
+    base-order.order_of_whole
+    base-part.same_bytes
     base-range.within
     base-walk.from
-    unicode-characters.charactersFrom
-    unicode-lead.starts_with unicode-lead.row_in unicode-lead.row_of unicode-lead.leadLength unicode-lead.secondLow unicode-lead.secondHigh
-    unicode-scalar.isScalarValue unicode-scalar.scalarOf unicode-scalar.scalarAt unicode-scalar.encode
-    unicode-well-formed.in_range unicode-well-formed.fits unicode-well-formed.sequenceIn unicode-well-formed.sequenceAt unicode-well-formed.illFormedFrom
-    record-kind.integerKind record-kind.scalarKind record-kind.kind_of
-    record-name.letter record-name.nameByte record-name.all record-name.validName record-name.lower record-name.same_name
-    record-record.recordAt record-record.records
-    record-reserved.reservedWords record-reserved.among record-reserved.isReserved
-    record-write.littleEndian record-write.stored record-write.write
-    real-real.magnitude real-real.realOf
+    unicode-characters.characters_from
+    unicode-lead.starts_with unicode-lead.row_in unicode-lead.row_of unicode-lead.lead_length unicode-lead.second_low unicode-lead.second_high
+    unicode-scalar.is_scalar_value unicode-scalar.scalar_of unicode-scalar.scalar_at unicode-scalar.encode
+    unicode-well-formed.in_range unicode-well-formed.fits unicode-well-formed.sequence_in unicode-well-formed.sequence_at unicode-well-formed.ill_formed_from
+    record-kind.integer_kind record-kind.scalar_kind record-kind.kind_of
+    record-name.letter record-name.name_byte record-name.all record-name.valid_name record-name.lower record-name.same_name
+    record-record.record_at record-record.records
+    record-reserved.reserved_words record-reserved.among record-reserved.is_reserved
+    record-write.little_endian record-write.stored record-write.write
+    real-real.magnitude real-real.real_of
     real-scale.scale_of
-    datetime-calendar.leapYears datetime-calendar.daysBeforeMonth
-    datetime-datetime.datetimeOf
-    datetime-order.orderOfSpans
-    datetime-text.shaped datetime-text.dateIn datetime-text.timeIn
-    datetime-unknown.starFrom datetime-unknown.known datetime-unknown.filled datetime-unknown.lowestText datetime-unknown.highestText
+    datetime-calendar.leap_years datetime-calendar.days_before_month
+    datetime-datetime.datetime_of
+    datetime-order.order_of_spans
+    datetime-text.shaped datetime-text.date_in datetime-text.time_in
+    datetime-unknown.star_from datetime-unknown.known datetime-unknown.filled datetime-unknown.lowest_text datetime-unknown.highest_text
     pattern-character.special pattern-character.starts_with
-    pattern-reading.escaped pattern-reading.member pattern-reading.range pattern-reading.members pattern-reading.setFrom pattern-reading.symbol pattern-reading.repeated pattern-reading.symbolItem pattern-reading.ends pattern-reading.parse pattern-reading.alternatives pattern-reading.sequence pattern-reading.item
-    pattern-regex.inRanges pattern-regex.stands_for
-    pattern-run.nullable pattern-run.final pattern-run.shift pattern-run.withLive pattern-run.run pattern-run.likes
-    table-properties.kindsIn table-properties.namesIn table-properties.namesBefore table-properties.findIn table-properties.findProperty
-    table-table.properties table-table.tableReading
-    instance-body.booleanFits instance-body.textFits instance-body.char16Fits instance-body.datetimeFits
+    pattern-reading.escaped pattern-reading.member pattern-reading.range pattern-reading.members pattern-reading.set_from pattern-reading.symbol pattern-reading.repeated pattern-reading.symbol_item pattern-reading.ends pattern-reading.parse pattern-reading.alternatives pattern-reading.sequence pattern-reading.item
+    pattern-regex.in_ranges pattern-regex.stands_for
+    pattern-run.nullable pattern-run.final pattern-run.shift pattern-run.with_live pattern-run.run pattern-run.likes
+    table-properties.kinds_in table-properties.names_in table-properties.names_before table-properties.find_in table-properties.find_property
+    table-table.properties table-table.table_reading
+    instance-body.boolean_fits instance-body.text_fits instance-body.char16_fits instance-body.datetime_fits
     instance-conforms.count
-    instance-fault.elementsFit instance-fault.furtherFault instance-fault.faultIn instance-fault.faultUnder instance-fault.stepAt
+    instance-fault.elements_fit instance-fault.further_fault instance-fault.fault_in instance-fault.fault_under instance-fault.step_at
     instance-start.start_of
-    instance-value.familyValue instance-value.elements instance-value.value_at instance-value.environmentUnder
-    scan-class.white scan-class.inClass scan-class.span scan-class.run
-    numeral-numeral.signed numeral-numeral.unsignedInteger numeral-numeral.decimalLiteral numeral-numeral.binaryBody numeral-numeral.binaryLiteral numeral-numeral.hexPairs numeral-numeral.hexBody numeral-numeral.hexLiteral numeral-numeral.exactNumeric numeral-numeral.exponentPart numeral-numeral.realBody numeral-numeral.realLiteral
+    instance-value.family_value instance-value.elements instance-value.value_at instance-value.environment_under
+    scan-class.white scan-class.in_class scan-class.span scan-class.run
+    numeral-numeral.signed numeral-numeral.unsigned_integer numeral-numeral.decimal_literal numeral-numeral.binary_body numeral-numeral.binary_literal numeral-numeral.hex_pairs numeral-numeral.hex_body numeral-numeral.hex_literal numeral-numeral.exact_numeric numeral-numeral.exponent_part numeral-numeral.real_body numeral-numeral.real_literal
     string-literal-abnf.member
-    string-literal-char.unicodeChar string-literal-char.rawAt string-literal-char.plainEscape string-literal-char.hexRun string-literal-char.unicodeEscape string-literal-char.escapeAt string-literal-char.char_at
-    string-literal-text.textAt string-literal-text.charactersOf string-literal-text.bytes_of string-literal-text.endOr string-literal-text.stringLiteral string-literal-text.filled
-    token-token.isToken token-token.fitted token-token.longer token-token.wordKind token-token.wordToken token-token.numberToken token-token.textToken token-token.pairKind token-token.singleKind token-token.symbol_of token-token.symbolToken token-token.longestAt token-token.tokenFrom token-token.tokenAt token-token.wordOrNumber token-token.apart token-token.tokenAfter
-    literal-integer.base_of literal-integer.leadOf literal-integer.digitCount literal-integer.magnitudeFrom literal-integer.magnitude literal-integer.with_sign literal-integer.integerBy literal-integer.integerOf
-    literal-literal.wordLiteral literal-literal.hexLiteralOf literal-literal.numberLiteral literal-literal.literalOf
-    literal-real-literal.digitsOf literal-real-literal.exponentSize literal-real-literal.exponentBelow literal-real-literal.realFrom literal-real-literal.realLiteralOf
-    literal-sort.wordSort literal-sort.formSort literal-sort.sortOf literal-sort.unsignedHex
+    string-literal-char.unicode_char string-literal-char.raw_at string-literal-char.plain_escape string-literal-char.hex_run string-literal-char.unicode_escape string-literal-char.escape_at string-literal-char.char_at
+    string-literal-text.text_at string-literal-text.characters_of string-literal-text.bytes_of string-literal-text.end_or string-literal-text.string_literal string-literal-text.filled
+    token-token.is_token token-token.fitted token-token.longer token-token.word_kind token-token.word_token token-token.number_token token-token.text_token token-token.pair_kind token-token.single_kind token-token.symbol_of token-token.symbol_token token-token.longest_at token-token.token_from token-token.token_at token-token.word_or_number token-token.apart token-token.token_after
+    literal-integer.base_of literal-integer.lead_of literal-integer.digit_count literal-integer.magnitude_from literal-integer.magnitude literal-integer.with_sign literal-integer.integer_by literal-integer.integer_of
+    literal-literal.word_literal literal-literal.hex_literal_of literal-literal.number_literal literal-literal.literal_of
+    literal-real-literal.digits_of literal-real-literal.exponent_size literal-real-literal.exponent_below literal-real-literal.real_from literal-real-literal.real_literal_of
+    literal-sort.word_sort literal-sort.form_sort literal-sort.sort_of literal-sort.unsigned_hex
     terminal-terminal.same terminal-terminal.word terminal-terminal.literal terminal-terminal.comparing terminal-terminal.joining terminal-terminal.quantifying terminal-terminal.opening terminal-terminal.unsigned
-    syntax-comparison.left_of syntax-comparison.leftBy syntax-comparison.left_at syntax-comparison.leftSide syntax-comparison.notLike syntax-comparison.like syntax-comparison.operationBy syntax-comparison.operation syntax-comparison.elements syntax-comparison.list_from syntax-comparison.arrayLiteral syntax-comparison.operandOf syntax-comparison.operand syntax-comparison.pattern syntax-comparison.rightSide syntax-comparison.compOf syntax-comparison.compOperation syntax-comparison.compLeft syntax-comparison.propertyComp
-    syntax-property.oneMore syntax-property.dotted syntax-property.property syntax-property.closeIndex syntax-property.indexNumber syntax-property.indexed syntax-property.withIndex syntax-property.withPath syntax-property.reference
-    query-text-query.atEnd query-text-query.openGroup query-text-query.outerBy query-text-query.afterGroup query-text-query.outer query-text-query.joinBy query-text-query.joinAfter query-text-query.next_of query-text-query.nextBy query-text-query.nextComparison query-text-query.before query-text-query.queryFrom query-text-query.start_at query-text-query.queryStart query-text-query.query query-text-query.verdict
-    query-text-text.encodedVerdict query-text-text.textVerdict
+    syntax-comparison.left_of syntax-comparison.left_by syntax-comparison.left_at syntax-comparison.left_side syntax-comparison.not_like syntax-comparison.like syntax-comparison.operation_by syntax-comparison.operation syntax-comparison.elements syntax-comparison.list_from syntax-comparison.array_literal syntax-comparison.operand_of syntax-comparison.operand syntax-comparison.pattern syntax-comparison.right_side syntax-comparison.comp_of syntax-comparison.comp_operation syntax-comparison.comp_left syntax-comparison.property_comp
+    syntax-property.one_more syntax-property.dotted syntax-property.property syntax-property.close_index syntax-property.index_number syntax-property.indexed syntax-property.with_index syntax-property.with_path syntax-property.reference
+    query-text-query.at_end query-text-query.open_group query-text-query.outer_by query-text-query.after_group query-text-query.outer query-text-query.join_by query-text-query.join_after query-text-query.next_of query-text-query.next_by query-text-query.next_comparison query-text-query.before query-text-query.query_from query-text-query.start_at query-text-query.query_start query-text-query.query query-text-query.verdict
+    query-text-text.encoded_verdict query-text-text.text_verdict
     query-text-tree.front query-text-tree.tree query-text-tree.every query-text-tree.some query-text-tree.holds query-text-tree.total query-text-tree.step
-    value-compare.orderOfScalars value-compare.compares
-    value-item.listed value-item.itemValue
-    value_read_law.valueInRecord
-    value-unit.hexPairs value-unit.utf8After value-unit.unitsFrom
-    value-literal-literal-value.textValue value-literal-literal-value.literalValue
-    short-circuit-count.everySteps short-circuit-count.someSteps short-circuit-count.treeSteps short-circuit-count.sum_of
-    short-circuit-walk.walk short-circuit-walk.walkQuery
-    operand-element.elementsFrom operand-element.firstElement
+    value-compare.order_of_scalars value-compare.compares
+    value-item.listed value-item.item_value
+    value_read_law.value_in_record
+    value-unit.hex_pairs value-unit.utf8_after value-unit.units_from
+    value-literal-literal-value.text_value value-literal-literal-value.literal_value
+    short-circuit-count.every_steps short-circuit-count.some_steps short-circuit-count.tree_steps short-circuit-count.sum_of
+    short-circuit-walk.walk short-circuit-walk.walk_query
+    operand-element.elements_from operand-element.first_element
     operand-index.index_of
-    operand-literal-reading.fits operand-literal-reading.noDatetime operand-literal-reading.readLiteral operand-literal-reading.isNullLiteral
+    operand-literal-reading.fits operand-literal-reading.no_datetime operand-literal-reading.read_literal operand-literal-reading.is_null_literal
     operand-named.named
-    operand-pattern-literal.patternOf
-    place-place.body_at place-place.bodyValue place-place.valueRead place-place.literalValues
-    search-search.someHolds search-search.allHold search-search.searchHolds search-search.elementsSeen search-search.searchSteps
-    arrays-arrays.sameElements arrays-arrays.sameArrays arrays-arrays.pairsSeen arrays-arrays.arraySteps
-    like-like.asText like-like.likeHolds like-like.size
+    operand-pattern-literal.pattern_of
+    place-place.body_at place-place.body_value place-place.value_read place-place.literal_values
+    search-search.some_holds search-search.all_hold search-search.search_holds search-search.elements_seen search-search.search_steps
+    arrays-arrays.same_elements arrays-arrays.same_arrays arrays-arrays.pairs_seen arrays-arrays.array_steps
+    like-like.as_text like-like.like_holds like-like.size
     predicate-test.truth predicate-test.steps predicate-test.reads
-    judge-environment.entryNamed
-    judge-meaning.asScalar judge-meaning.asArray judge-meaning.elementOf judge-meaning.leftScalar judge-meaning.leftArray judge-meaning.elements judge-meaning.rightScalar judge-meaning.rightArray judge-meaning.rightKind judge-meaning.rightProperty judge-meaning.rightOf judge-meaning.both judge-meaning.ordered judge-meaning.meet judge-meaning.meantBy judge-meaning.meantAs judge-meaning.meaning
-    filter-check.first filter-check.demand filter-check.eachToken filter-check.checkRightName filter-check.shape_of filter-check.leftShape filter-check.rightShape filter-check.beside filter-check.isFitting filter-check.all_fit filter-check.rowFits filter-check.orderFits filter-check.checkIndex filter-check.checkLeftIndex filter-check.checkRanges filter-check.checkPattern filter-check.checkDatetimes filter-check.checkKind filter-check.checkComparison filter-check.checkAll filter-check.check
+    judge-environment.entry_named
+    judge-meaning.as_scalar judge-meaning.as_array judge-meaning.element_of judge-meaning.left_scalar judge-meaning.left_array judge-meaning.elements judge-meaning.right_scalar judge-meaning.right_array judge-meaning.right_kind judge-meaning.right_property judge-meaning.right_of judge-meaning.both judge-meaning.ordered judge-meaning.meet judge-meaning.meant_by judge-meaning.meant_as judge-meaning.meaning
+    filter-check.first filter-check.demand filter-check.each_token filter-check.check_right_name filter-check.shape_of filter-check.left_shape filter-check.right_shape filter-check.beside filter-check.is_fitting filter-check.all_fit filter-check.row_fits filter-check.order_fits filter-check.check_index filter-check.check_left_index filter-check.check_ranges filter-check.check_pattern filter-check.check_datetimes filter-check.check_kind filter-check.check_comparison filter-check.check_all filter-check.check
     filter-evaluate.evaluate filter-evaluate.steps filter-evaluate.bound
-    filter-meaning.truth_of filter-meaning.steps_of filter-meaning.reads_of filter-meaning.unlessFailing filter-meaning.queryMeaning filter-meaning.querySteps filter-meaning.queryBound
+    filter-meaning.truth_of filter-meaning.steps_of filter-meaning.reads_of filter-meaning.unless_failing filter-meaning.query_meaning filter-meaning.query_steps filter-meaning.query_bound
     filter-refusal.call_of
-    conjunction-groups.lastWithin conjunction-groups.last conjunction-groups.groupAt conjunction-groups.follow conjunction-groups.termsWithin conjunction-groups.termsFrom
-    conjunction-conjunction.chained conjunction-conjunction.each conjunction-conjunction.products conjunction-conjunction.termText conjunction-conjunction.text conjunction-conjunction.conjunction conjunction-conjunction.size conjunction-conjunction.comparisons conjunction-conjunction.count conjunction-conjunction.isTooLarge
-    conjunction-conjoin.conjoin conjunction-conjoin.bufferAfter conjunctions.ored
-    run-run.readingFrom run-run.runReading run-run.bodiesOf run-run.instancesOf
+    conjunction-groups.last_within conjunction-groups.last conjunction-groups.group_at conjunction-groups.follow conjunction-groups.terms_within conjunction-groups.terms_from
+    conjunction-conjunction.chained conjunction-conjunction.each conjunction-conjunction.products conjunction-conjunction.term_text conjunction-conjunction.text conjunction-conjunction.conjunction conjunction-conjunction.size conjunction-conjunction.comparisons conjunction-conjunction.count conjunction-conjunction.is_too_large
+    conjunction-conjoin.conjoin conjunction-conjoin.buffer_after conjunctions.ored
+    run-run.reading_from run-run.run_reading run-run.bodies_of run-run.instances_of
     run-totals.count
-    mark-mark.mark mark-mark.marksAfter
-    watch-window.watchMarksFrom
-    watch-watch.watch watch-watch.marksAfter
-    invariance-named-properties.named_by invariance-named-properties.named_in invariance-named-properties.without invariance-named-properties.distinct invariance-named-properties.namedProperties
-    text-writer-decimal.digitsWithin text-writer-decimal.decimal
-    report-line.spaced report-line.line report-line.refusedLine report-line.spacedTotals report-line.totalLine report-line.answerLines
+    mark-mark.mark mark-mark.marks_after
+    watch-window.watch_marks_from
+    watch-watch.watch watch-watch.marks_after
+    invariance-named-properties.named_by invariance-named-properties.named_in invariance-named-properties.without invariance-named-properties.distinct invariance-named-properties.named_properties
+    text-writer-decimal.digits_within text-writer-decimal.decimal
+    report-line.spaced report-line.line report-line.refused_line report-line.spaced_totals report-line.total_line report-line.answer_lines
     report-text.terminated report-text.text
-    report-output.outputLines
+    report-output.output_lines
 every_one = (refl, refl, refl, refl, refl, refl)
 
 pub starred_right : results outcomes starred ≡ expected starred

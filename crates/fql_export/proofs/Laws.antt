@@ -67,7 +67,7 @@ module _ (c : Conjoined) where
   pub conjoined_length : (n : ℕ) → c ≡ conjoined.Length n → record { number = 0; place = 0; query = 0; length = n } ≡ conjoined_of c
   conjoined_length n e = rw e refl
 
-  pub conjoined_refused : (r : ConjoinRefusal) → c ≡ conjoined.Refused r → {n k : ℕ} → n ≡ conjoin.number_of r.cause → k ≡ conjoin.queryOf r.cause
+  pub conjoined_refused : (r : ConjoinRefusal) → c ≡ conjoined.Refused r → {n k : ℕ} → n ≡ conjoin.number_of r.cause → k ≡ conjoin.query_of r.cause
       → record { number = n; place = r.place; query = k; length = 0 } ≡ conjoined_of c
   conjoined_refused r e en ek = rw (e, en, ek) refl
 

@@ -63,7 +63,7 @@ array_of kind i place element t e = go (record_at i place)
     by true start len = refl
     by false start len = refl
 
-    go : (r : RecordAt) → as_array (value.valueIn kind i r) ≡ body_value t i (body_of r)
+    go : (r : RecordAt) → as_array (value.value_in kind i r) ≡ body_value t i (body_of r)
     go (record-at.Whole k start len next) = rw e (by (eqb k 0) start len)
     go record-at.Broken = refl
     go record-at.End = refl

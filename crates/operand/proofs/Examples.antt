@@ -48,7 +48,7 @@ unfolding
     digits_within decimal same_bytes star_from known filled lowest_text highest_text datetime_of
     token_at token_from longest_at symbol_token symbol_of single_kind pair_kind text_token number_token word_token word_kind longer fitted is_token
     text_at characters_of bytes_of end_or string_literal unicode_char raw_at plain_escape hex_run unicode_escape escape_at char_at
-    signed unsigned_integer decimal_literal binary_body binary_literal numeral.hexPairs hex_body hex_literal exact_numeric exponent_part real_body real_literal
+    signed unsigned_integer decimal_literal binary_body binary_literal numeral.hex_pairs hex_body hex_literal exact_numeric exponent_part real_body real_literal
     white in_class span run letter name_byte lower same_name is_scalar_value scalar_of scalar_at encode in_range utf.fits sequence_in sequence_at
     digit_of all_digits value_of size_under walk from within
 literals_right = refl
@@ -57,7 +57,7 @@ pub indices_right : results first_index indices ≡ expected indices
 unfolding
     index_of base_of lead_of digit_count magnitude_from integer.magnitude with_sign integer_by integer_of
     token_at token_from longest_at symbol_token symbol_of single_kind pair_kind text_token number_token word_token word_kind longer fitted is_token string_literal
-    signed unsigned_integer decimal_literal binary_body binary_literal numeral.hexPairs hex_body hex_literal exact_numeric exponent_part real_body real_literal
+    signed unsigned_integer decimal_literal binary_body binary_literal numeral.hex_pairs hex_body hex_literal exact_numeric exponent_part real_body real_literal
     white in_class span run letter name_byte digit_of value_of size_under within
 indices_right = refl
 
@@ -65,6 +65,6 @@ pub names_right : results sample_named names ≡ expected names
 unfolding
     named find_in find_property record_at records little_endian write unsigned one_more dotted property same word
     token_at token_from longest_at symbol_token symbol_of single_kind pair_kind text_token number_token word_token word_kind longer fitted is_token word_or_number apart token_after
-    string_literal signed unsigned_integer decimal_literal binary_body binary_literal numeral.hexPairs hex_body hex_literal exact_numeric exponent_part real_body real_literal
+    string_literal signed unsigned_integer decimal_literal binary_body binary_literal numeral.hex_pairs hex_body hex_literal exact_numeric exponent_part real_body real_literal
     white in_class span run letter name_byte lower same_name digit_of walk from within
 names_right = refl

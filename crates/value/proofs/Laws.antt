@@ -80,15 +80,15 @@ module _ (s : List ℕ) (at : ℕ) where
 module _ {r : InString} (s : List ℕ) (at : ℕ) (e : r ≡ char_at s at) where
   pub quoted_next : (v next : ℕ) → r ≡ Character v next → Steps Quoted s at (Unit v Quoted next)
   unfolding units_from
-  quoted_next v next f = filling.next-character s at e v next f
+  quoted_next v next f = filling.next_character s at e v next f
 
   pub quoted_close : r ≡ Close → Steps Quoted s at End
   unfolding units_from
-  quoted_close f = filling.at-close s at e f
+  quoted_close f = filling.at_close s at e f
 
   pub quoted_bad : r ≡ Bad → Steps Quoted s at End
   unfolding units_from
-  quoted_bad f = filling.at-bad s at e f
+  quoted_bad f = filling.at_bad s at e f
 
 -- the sequence of a scalar value, by its length
 module _ (v k : ℕ) where
@@ -160,29 +160,29 @@ utf8_whole (v ∷ vs) = rw (lt-ltb 0 (length (encode v)) (encode_some v))
 module _ {r : InString} (s : List ℕ) (at : ℕ) (e : r ≡ char_at s at) (k : ℕ) where
   pub encoded_close : r ≡ Close → Steps (Encoded k) s at End
   unfolding units_from utf8_after
-  encoded_close f = rw (filling.at-close s at e f)
+  encoded_close f = rw (filling.at_close s at e f)
 
   pub encoded_bad : r ≡ Bad → Steps (Encoded k) s at End
   unfolding units_from utf8_after
-  encoded_bad f = rw (filling.at-bad s at e f)
+  encoded_bad f = rw (filling.at_bad s at e f)
 
   module _ (v next : ℕ) (f : r ≡ Character v next) (n : ℕ) (long : n ≡ length (encode v)) where
     pub encoded_past : n ≤ k → Steps (Encoded k) s at End
     unfolding units_from utf8_after
-    encoded_past h = rw (filling.next-character s at e v next f, le-ltb k (length (encode v)) (rw long at h))
+    encoded_past h = rw (filling.next_character s at e v next f, le-ltb k (length (encode v)) (rw long at h))
 
     left : k < n → utf8_after k (characters_of (text_at s at)) ≡ get_or (encode v) k 0 ∷ (drop (k + 1) (encode v) ++ bytes_of (characters_of (text_at s next)))
     unfolding utf8_after
     left h =
         let l : k < length (encode v) = rw long at h in
-        rw (filling.next-character s at e v next f, lt-ltb k (length (encode v)) l, left_next (encode v) k l)
+        rw (filling.next_character s at e v next f, lt-ltb k (length (encode v)) l, left_next (encode v) k l)
 
     module _ (b : ℕ) (is : b ≡ get_or (encode v) k 0) (here : k < n) where
       pub encoded_more : k + 1 < n → Steps (Encoded k) s at (Unit b (Encoded (k + 1)) at)
       unfolding units_from utf8_after
       encoded_more h =
           let l : k + 1 < length (encode v) = rw long at h in
-          left here ∙ rw (is, filling.next-character s at e v next f, lt-ltb (k + 1) (length (encode v)) l)
+          left here ∙ rw (is, filling.next_character s at e v next f, lt-ltb (k + 1) (length (encode v)) l)
 
       pub encoded_last : n ≤ k + 1 → Steps (Encoded k) s at (Unit b (Encoded 0) next)
       unfolding units_from

@@ -37,7 +37,7 @@ range_says n k =
     (says_and (leb 1 k) (leb k n) (says_leb 1 k) (says_leb k n))
 
 -- ---- after a good call of mark: as many plain marks as its totals say, and the bytes beyond
-module _ (q t run m : List ℕ) {v : Marked} (ev : v ≡ mark.mark q t run (length m)) {x : Totals} (e : v ≡ marked.Totals x) {u : List ℕ} (eu : u ≡ mark.marksAfter q t run m) where
+module _ (q t run m : List ℕ) {v : Marked} (ev : v ≡ mark.mark q t run (length m)) {x : Totals} (e : v ≡ marked.Totals x) {u : List ℕ} (eu : u ≡ mark.marks_after q t run m) where
   abbrev beyond : List ℕ
   beyond = drop (length (instances_of run)) m
 
@@ -45,7 +45,7 @@ module _ (q t run m : List ℕ) {v : Marked} (ev : v ≡ mark.mark q t run (leng
   after = eu ∙ marks.after q t run m x (sym ev ∙ e)
 
   plain : length (marks_of q t run) ≡ sum x
-  plain = marks_length q t run ∙ sym (marks.good-sum q t run (length m) x (sym ev ∙ e))
+  plain = marks_length q t run ∙ sym (marks.good_sum q t run (length m) x (sym ev ∙ e))
 
   pub enough : sum x ≤ length u
   enough = omega (arith, ap length after, length-append (marks_of q t run) beyond, plain)
@@ -86,17 +86,17 @@ module _ (q t run : List ℕ) (n k : ℕ) where
           pub mark_refuses : watched.Refused (record { cause = Mark r.cause; place = r.place }) ≡ watch q t run n k (length m)
           mark_refuses = as_mark e
 
-          pub mark_leaves : {u : List ℕ} → u ≡ mark.marksAfter q t run m → u ≡ marks_after q t run n k m
-          mark_leaves eu = eu ∙ marks.refused-leaves q t run m r (sym ev ∙ e) ∙ leaves m mark_refuses
+          pub mark_leaves : {u : List ℕ} → u ≡ mark.marks_after q t run m → u ≡ marks_after q t run n k m
+          mark_leaves eu = eu ∙ marks.refused_leaves q t run m r (sym ev ∙ e) ∙ leaves m mark_refuses
 
-        module _ {x : Totals} (e : v ≡ marked.Totals x) {u : List ℕ} (eu : u ≡ mark.marksAfter q t run m) where
-          marked_plain : window.watchMarks n k (take (sum x) u) ≡ watch_marks_of q t run n k
-          marked_plain = ap (window.watchMarks n k) (plain_marks q t run m ev e eu)
+        module _ {x : Totals} (e : v ≡ marked.Totals x) {u : List ℕ} (eu : u ≡ mark.marks_after q t run m) where
+          marked_plain : window.watch_marks n k (take (sum x) u) ≡ watch_marks_of q t run n k
+          marked_plain = ap (window.watch_marks n k) (plain_marks q t run m ev e eu)
 
-          pub good_totals : {y : WatchTotals} → y ≡ totals_of (window.watchMarks n k (take (sum x) u)) → watched.Totals y ≡ watch q t run n k (length m)
+          pub good_totals : {y : WatchTotals} → y ≡ totals_of (window.watch_marks n k (take (sum x) u)) → watched.Totals y ≡ watch q t run n k (length m)
           good_totals ey = ap watched.Totals (ey ∙ ap totals_of marked_plain) ∙ as_mark e
 
-          pub good_marks : {y : List ℕ} → y ≡ window.watchMarks n k (take (sum x) u) ++ drop (sum x) u → y ≡ marks_after q t run n k m
+          pub good_marks : {y : List ℕ} → y ≡ window.watch_marks n k (take (sum x) u) ++ drop (sum x) u → y ≡ marks_after q t run n k m
           unfolding marks_after
           good_marks ey =
               ey

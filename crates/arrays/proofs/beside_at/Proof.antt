@@ -25,10 +25,10 @@ enum-told-2 : tie.Need-enum-told-2
 enum-told-2 c = search rules
 
 returns-2 : tie.Need-returns-2
-returns-2 c = search law.beside-differ
+returns-2 c = search law.beside_differ
 
 returns-3 : tie.Need-returns-3
-returns-3 c = search law.beside-broken
+returns-3 c = search law.beside_broken
 
 returns-4 : tie.Need-returns-4
 returns-4 c = search law.beside_end

@@ -46,22 +46,22 @@ tell-requires-4 : tie.Need-tell-requires-4
 tell-requires-4 c κs = search rules
 
 returns : tie.Need-returns
-returns c = search law.bodies-sizes
+returns c = search law.bodies_sizes
 
 compare-pairs-requires : tie.Need-compare-pairs-requires
-compare-pairs-requires c κs = search law.sizes-same
+compare-pairs-requires c κs = search law.sizes_same
 
 returns-2 : tie.Need-returns-2
-returns-2 c = search law.bodies-null
+returns-2 c = search law.bodies_null
 
 returns-3 : tie.Need-returns-3
-returns-3 c = search law.bodies-first-null
+returns-3 c = search law.bodies_first_null
 
 returns-4 : tie.Need-returns-4
-returns-4 c = search law.bodies-second-null
+returns-4 c = search law.bodies_second_null
 
 returns-5 : tie.Need-returns-5
-returns-5 c = search law.bodies-pairs
+returns-5 c = search law.bodies_pairs
 
 pub compare-bodies-spec : {M : Type 1} → statement M
 compare-bodies-spec =

@@ -22,7 +22,7 @@ tell-requires-2 : tie.Need-tell-requires-2
 tell-requires-2 c κs = search rules
 
 returns : tie.Need-returns
-returns c = search law.literal-sizes
+returns c = search law.literal_sizes
 
 first-element-requires : tie.Need-first-element-requires
 first-element-requires c κs = search rules
@@ -31,10 +31,10 @@ compare-literals-requires : tie.Need-compare-literals-requires
 compare-literals-requires c κs = search rules
 
 returns-2 : tie.Need-returns-2
-returns-2 c = search law.literal-null
+returns-2 c = search law.literal_null
 
 returns-3 : tie.Need-returns-3
-returns-3 c = search law.literal-pairs
+returns-3 c = search law.literal_pairs
 
 pub compare-elements-spec : {M : Type 1} → statement M
 compare-elements-spec =

@@ -14,15 +14,15 @@ use Rattle.arrays.proofs.compare_literals.Statement.{statement}
 use Rattle.arrays.proofs.compare_literals.Tie as tie
 
 abbrev invariant-loop : tie.invariant-loop
-invariant-loop op a of q at₀ t₀ n₀ at t n = (compared op (some (elements_of of a)) (some (law.literalsFrom of.family q t₀ (count (records a 0))))
-    ≡ law.pairsFrom op n (elements of a (records a at)) (law.literalsFrom of.family q t (count (records a at))))
+invariant-loop op a of q at₀ t₀ n₀ at t n = (compared op (some (elements_of of a)) (some (law.literals_from of.family q t₀ (count (records a 0))))
+    ≡ law.pairs_from op n (elements of a (records a at)) (law.literals_from of.family q t (count (records a at))))
     × (n ≤ at + 1)
 
 abbrev decreases-loop : tie.decreases-loop
 decreases-loop op a of q at₀ t₀ n₀ at t n = length a - at
 
 loop-holds : tie.Need-loop-init invariant-loop decreases-loop
-loop-holds c = (law.literals-first _ _ _ _ _ _, search rules)
+loop-holds c = (law.literals_first _ _ _ _ _ _, search rules)
 
 beside-at-requires : tie.Need-beside-at-requires invariant-loop decreases-loop
 beside-at-requires c κs = search rules
@@ -37,7 +37,7 @@ enum-told-2 : tie.Need-enum-told-2 invariant-loop decreases-loop
 enum-told-2 c = search rules
 
 add-tell : tie.Need-overflow-add-tell invariant-loop decreases-loop
-add-tell c = let m = law.unlike-room _ _ _ _ _ c.before.before.beside_at.ensures c.enum-told2.given.1 _ c.before.before.before.loop.invariant.1 in omega arith
+add-tell c = let m = law.unlike_room _ _ _ _ _ c.before.before.beside_at.ensures c.enum-told2.given.1 _ c.before.before.before.loop.invariant.1 in omega arith
 
 tell-requires-2 : tie.Need-tell-requires-2 invariant-loop decreases-loop
 tell-requires-2 c κs = search rules
@@ -49,19 +49,19 @@ next-element-requires : tie.Need-next-element-requires invariant-loop decreases-
 next-element-requires c κs = search rules
 
 add-n : tie.Need-overflow-add-n invariant-loop decreases-loop
-add-n c = let m = law.onward-room _ _ _ _ _ c.before.before.before.before.beside_at.ensures _ c.before.before.next.given.1 _ c.before.before.before.before.before.loop.invariant.1 in omega arith
+add-n c = let m = law.onward_room _ _ _ _ _ c.before.before.before.before.beside_at.ensures _ c.before.before.next.given.1 _ c.before.before.before.before.before.loop.invariant.1 in omega arith
 
 loop-less : tie.Need-loop-smaller invariant-loop decreases-loop
-loop-less c = search law.onward-less
+loop-less c = search law.onward_less
 
 loop-again : tie.Need-loop-preserved invariant-loop decreases-loop
-loop-again c = (search law.literals-go, search law.onward-counts)
+loop-again c = (search law.literals_go, search law.onward_counts)
 
 returns : tie.Need-returns invariant-loop decreases-loop
-returns c = search law.literals-stop
+returns c = search law.literals_stop
 
 returns-2 : tie.Need-returns-2 invariant-loop decreases-loop
-returns-2 c = search law.literals-differ
+returns-2 c = search law.literals_differ
 
 pub compare-literals-spec : {M : Type 1} → statement M
 compare-literals-spec =

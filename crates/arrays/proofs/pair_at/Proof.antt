@@ -37,16 +37,16 @@ enum-told-4 : tie.Need-enum-told-4
 enum-told-4 c = search rules
 
 returns-2 : tie.Need-returns-2
-returns-2 c = search law.pair-differ
+returns-2 c = search law.pair_differ
 
 returns-3 : tie.Need-returns-3
-returns-3 c = search law.pair-other-broken
+returns-3 c = search law.pair_other_broken
 
 returns-4 : tie.Need-returns-4
-returns-4 c = search law.pair-other-end
+returns-4 c = search law.pair_other_end
 
 returns-5 : tie.Need-returns-5
-returns-5 c = search law.pair-broken
+returns-5 c = search law.pair_broken
 
 returns-6 : tie.Need-returns-6
 returns-6 c = search law.pair_end

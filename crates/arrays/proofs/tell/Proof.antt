@@ -7,7 +7,7 @@ holds-equality-requires : tie.Need-holds-equality-requires
 holds-equality-requires c κs = search rules
 
 returns : tie.Need-returns
-returns c = search law.equality-told
+returns c = search law.equality_told
 
 pub tell-spec : {M : Type 1} → statement M
 tell-spec = tie.close (tie.spec holds-equality-requires returns)

@@ -16,10 +16,10 @@ enum-told-2 : tie.Need-enum-told-2
 enum-told-2 c = search rules
 
 sub-result : tie.Need-overflow-sub-result
-sub-result c = search law.query-inside
+sub-result c = search law.query_inside
 
 part-result-start : tie.Need-slice-bounds-result-start
-part-result-start c = search law.query-inside
+part-result-start c = search law.query_inside
 
 part-result-end : tie.Need-slice-bounds-result-end
 part-result-end c = search rules
@@ -28,22 +28,22 @@ enum-told-3 : tie.Need-enum-told-3
 enum-told-3 c = search rules
 
 sub-result-2 : tie.Need-overflow-sub-result-2
-sub-result-2 c = search law.table-inside
+sub-result-2 c = search law.table_inside
 
 part-result-start-2 : tie.Need-slice-bounds-result-start-2
-part-result-start-2 c = search law.table-inside
+part-result-start-2 c = search law.table_inside
 
 part-result-end-2 : tie.Need-slice-bounds-result-end-2
 part-result-end-2 c = search rules
 
 returns : tie.Need-returns
-returns c = search law.nothing-shown
+returns c = search law.nothing_shown
 
 returns-2 : tie.Need-returns-2
-returns-2 c = search law.query-shown
+returns-2 c = search law.query_shown
 
 returns-3 : tie.Need-returns-3
-returns-3 c = search law.table-shown
+returns-3 c = search law.table_shown
 
 pub fault-text-spec : {M : Type 1} → statement M
 fault-text-spec =

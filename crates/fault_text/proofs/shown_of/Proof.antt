@@ -10,7 +10,7 @@ unless-past-requires : tie.Need-unless-past-requires
 unless-past-requires c κs = search rules
 
 returns : tie.Need-returns
-returns c = search law.shows-table
+returns c = search law.shows_table_law
 
 shows-query-requires : tie.Need-shows-query-requires
 shows-query-requires c κs = search rules
@@ -19,7 +19,7 @@ unless-past-requires-2 : tie.Need-unless-past-requires-2
 unless-past-requires-2 c κs = search rules
 
 returns-2 : tie.Need-returns-2
-returns-2 c = search law.shows-query
+returns-2 c = search law.shows_query_law
 
 returns-3 : tie.Need-returns-3
 returns-3 c = search law.shows_nothing

@@ -3,7 +3,7 @@ use Rattle.fault_text.proofs.unless_past.Statement.{statement}
 use Rattle.fault_text.proofs.unless_past.Tie as tie
 
 returns : tie.Need-returns
-returns c = search law.place-past
+returns c = search law.place_past
 
 returns-2 : tie.Need-returns-2
 returns-2 c = search law.place_inside

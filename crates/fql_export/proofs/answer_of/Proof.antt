@@ -16,13 +16,13 @@ number-of-requires : tie.Need-number-of-requires
 number-of-requires c κs = search rules
 
 returns : tie.Need-returns
-returns c = search law.answer-included
+returns c = search law.answer_included
 
 returns-2 : tie.Need-returns-2
-returns-2 c = search law.answer-excluded
+returns-2 c = search law.answer_excluded
 
 returns-3 : tie.Need-returns-3
-returns-3 c = search law.answer-refused
+returns-3 c = search law.answer_refused
 
 pub answer-of-spec : {M : Type 1} → statement M
 answer-of-spec =

@@ -16,10 +16,10 @@ query-of-requires : tie.Need-query-of-requires
 query-of-requires c κs = search rules
 
 returns : tie.Need-returns
-returns c = search law.conjoined-length
+returns c = search law.conjoined_length
 
 returns-2 : tie.Need-returns-2
-returns-2 c = search law.conjoined-refused
+returns-2 c = search law.conjoined_refused
 
 pub conjoined-of-spec : {M : Type 1} → statement M
 conjoined-of-spec =

@@ -10,7 +10,7 @@ refusal-of-requires : tie.Need-refusal-of-requires
 refusal-of-requires c κs = search rules
 
 returns : tie.Need-returns
-returns c = search law.of-check
+returns c = search law.of_check
 
 pub fql-check-spec : {M : Type 1} → statement M
 fql-check-spec = tie.close (tie.spec check-requires refusal-of-requires returns)

@@ -13,7 +13,7 @@ same_length : tie.Need-same-length
 same_length c = search rules
 
 returns : tie.Need-returns
-returns c = (search law.of-conjoin, search rules, search rules)
+returns c = (search law.of_conjoin, search rules, search rules)
 
 pub fql-conjoin-spec : {M : Type 1} → statement M
 fql-conjoin-spec = tie.close (tie.spec conjoin-requires conjoined-of-requires same_length returns)

@@ -10,7 +10,7 @@ answer-of-requires : tie.Need-answer-of-requires
 answer-of-requires c κs = search rules
 
 returns : tie.Need-returns
-returns c = search law.of-evaluate
+returns c = search law.of_evaluate
 
 pub fql-evaluate-spec : {M : Type 1} → statement M
 fql-evaluate-spec = tie.close (tie.spec evaluate-requires answer-of-requires returns)

@@ -13,7 +13,7 @@ same_length : tie.Need-same-length
 same_length c = search rules
 
 returns : tie.Need-returns
-returns c = (search law.of-mark, search rules, search rules)
+returns c = (search law.of_mark, search rules, search rules)
 
 pub fql-mark-spec : {M : Type 1} → statement M
 fql-mark-spec = tie.close (tie.spec mark-requires totals-of-requires same_length returns)

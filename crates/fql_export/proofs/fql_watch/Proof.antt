@@ -13,7 +13,7 @@ same_length : tie.Need-same-length
 same_length c = search rules
 
 returns : tie.Need-returns
-returns c = (search law.of-watch, search rules, search rules)
+returns c = (search law.of_watch, search rules, search rules)
 
 pub fql-watch-spec : {M : Type 1} → statement M
 fql-watch-spec = tie.close (tie.spec watch-requires watched-of-requires same_length returns)

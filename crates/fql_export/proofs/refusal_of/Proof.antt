@@ -13,10 +13,10 @@ number-of-requires : tie.Need-number-of-requires
 number-of-requires c κs = search rules
 
 returns : tie.Need-returns
-returns c = search law.refusal-none
+returns c = search law.refusal_none
 
 returns-2 : tie.Need-returns-2
-returns-2 c = search law.refusal-some
+returns-2 c = search law.refusal_some
 
 pub refusal-of-spec : {M : Type 1} → statement M
 refusal-of-spec = tie.close (tie.spec enum_told enum-known-c number-of-requires returns returns-2)

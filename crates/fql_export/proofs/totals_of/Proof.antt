@@ -13,10 +13,10 @@ number-of-requires : tie.Need-number-of-requires
 number-of-requires c κs = search rules
 
 returns : tie.Need-returns
-returns c = search law.totals-counted
+returns c = search law.totals_counted
 
 returns-2 : tie.Need-returns-2
-returns-2 c = search law.totals-refused
+returns-2 c = search law.totals_refused
 
 pub totals-of-spec : {M : Type 1} → statement M
 totals-of-spec =

@@ -19,10 +19,10 @@ judge-kind-requires : tie.Need-judge-kind-requires
 judge-kind-requires c κs = search rules
 
 returns : tie.Need-returns
-returns c = search law.left-absent
+returns c = search law.left_absent
 
 returns-2 : tie.Need-returns-2
-returns-2 c = search law.left-found
+returns-2 c = search law.left_found
 
 pub judge-spec : {M : Type 1} → statement M
 judge-spec =

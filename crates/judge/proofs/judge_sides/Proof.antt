@@ -34,22 +34,22 @@ meet-pattern-requires : tie.Need-meet-pattern-requires
 meet-pattern-requires c κs = search rules
 
 returns : tie.Need-returns
-returns c = search law.sides-missing
+returns c = search law.sides_missing
 
 returns-2 : tie.Need-returns-2
-returns-2 c = search law.sides-unindexable
+returns-2 c = search law.sides_unindexable
 
 returns-3 : tie.Need-returns-3
-returns-3 c = search law.sides-one
+returns-3 c = search law.sides_one
 
 returns-4 : tie.Need-returns-4
-returns-4 c = search law.sides-elements
+returns-4 c = search law.sides_elements
 
 returns-5 : tie.Need-returns-5
-returns-5 c = search law.sides-many
+returns-5 c = search law.sides_many
 
 returns-6 : tie.Need-returns-6
-returns-6 c = search law.sides-pattern
+returns-6 c = search law.sides_pattern
 
 pub judge-sides-spec : {M : Type 1} → statement M
 judge-sides-spec =

@@ -10,7 +10,7 @@ like-record-requires : tie.Need-like-record-requires
 like-record-requires c κs = search rules
 
 returns : tie.Need-returns
-returns c = search law.like-spot
+returns c = search law.like_spot
 
 pub like-spec : {M : Type 1} → statement M
 like-spec = tie.close (tie.spec bytes-of-requires like-record-requires returns)

@@ -13,7 +13,7 @@ match-utf8-requires : tie.Need-match-utf8-requires
 match-utf8-requires c κs = search rules
 
 tell-match-requires : tie.Need-tell-match-requires
-tell-match-requires c κs = let h = law.characters-few _ _ _ _ c.match-utf8.ensures in omega arith
+tell-match-requires c κs = let h = law.characters_few _ _ _ _ c.match-utf8.ensures in omega arith
 
 enum-told-2 : tie.Need-enum-told-2
 enum-told-2 c = search rules
@@ -28,7 +28,7 @@ match-character-requires : tie.Need-match-character-requires
 match-character-requires c κs = search rules
 
 tell-match-requires-2 : tie.Need-tell-match-requires-2
-tell-match-requires-2 c κs = let h = law.character-one _ _ _ _ c.match-character.ensures in omega arith
+tell-match-requires-2 c κs = let h = law.character_one _ _ _ _ c.match-character.ensures in omega arith
 
 enum-told-3 : tie.Need-enum-told-3
 enum-told-3 c = search rules
@@ -67,28 +67,28 @@ like-nothing-requires-6 : tie.Need-like-nothing-requires-6
 like-nothing-requires-6 c κs = search rules
 
 returns : tie.Need-returns
-returns c = search law.like-utf8
+returns c = search law.like_utf8
 
 returns-2 : tie.Need-returns-2
-returns-2 c = search law.like-char16
+returns-2 c = search law.like_char16
 
 returns-3 : tie.Need-returns-3
-returns-3 c = search law.like-other
+returns-3 c = search law.like_other
 
 returns-4 : tie.Need-returns-4
-returns-4 c = search law.like-other
+returns-4 c = search law.like_other
 
 returns-5 : tie.Need-returns-5
-returns-5 c = search law.like-other
+returns-5 c = search law.like_other
 
 returns-6 : tie.Need-returns-6
-returns-6 c = search law.like-other
+returns-6 c = search law.like_other
 
 returns-7 : tie.Need-returns-7
-returns-7 c = search law.like-other
+returns-7 c = search law.like_other
 
 returns-8 : tie.Need-returns-8
-returns-8 c = search law.like-other
+returns-8 c = search law.like_other
 
 pub like-body-spec : {M : Type 1} → statement M
 like-body-spec =

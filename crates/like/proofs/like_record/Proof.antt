@@ -13,7 +13,7 @@ like-nothing-requires : tie.Need-like-nothing-requires
 like-nothing-requires c κs = search rules
 
 returns : tie.Need-returns
-returns c = search law.like-null
+returns c = search law.like_null
 
 piece-requires : tie.Need-piece-requires
 piece-requires c κs = search rules
@@ -34,13 +34,13 @@ like-nothing-requires-3 : tie.Need-like-nothing-requires-3
 like-nothing-requires-3 c κs = search rules
 
 returns-2 : tie.Need-returns-2
-returns-2 c = search law.like-some
+returns-2 c = search law.like_some
 
 returns-3 : tie.Need-returns-3
-returns-3 c = search law.like-broken
+returns-3 c = search law.like_broken
 
 returns-4 : tie.Need-returns-4
-returns-4 c = search law.like-missing
+returns-4 c = search law.like_missing
 
 pub like-record-spec : {M : Type 1} → statement M
 like-record-spec =

@@ -10,7 +10,7 @@ add-t4 : tie.Need-overflow-add-t4
 add-t4 c = search rules
 
 returns : tie.Need-returns
-returns c = search law.match-told
+returns c = search law.match_told
 
 pub tell-match-spec : {M : Type 1} → statement M
 tell-match-spec = tie.close (tie.spec reverse-if-requires add-t4 returns)

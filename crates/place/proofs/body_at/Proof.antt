@@ -10,7 +10,7 @@ enum-known-kind : tie.Need-enum-known-kind
 enum-known-kind c = search rules
 
 returns : tie.Need-returns
-returns c = search law.body-null
+returns c = search law.body_null
 
 enum_told : tie.Need-enum-told
 enum_told c = search rules
@@ -19,13 +19,13 @@ enum-told-2 : tie.Need-enum-told-2
 enum-told-2 c = search rules
 
 returns-2 : tie.Need-returns-2
-returns-2 c = search law.body-stands
+returns-2 c = search law.body_stands
 
 returns-3 : tie.Need-returns-3
-returns-3 c = search law.body-broken
+returns-3 c = search law.body_broken
 
 returns-4 : tie.Need-returns-4
-returns-4 c = search law.body-missing
+returns-4 c = search law.body_missing
 
 pub body-at-spec : {M : Type 1} → statement M
 body-at-spec =

@@ -22,7 +22,7 @@ returns-2 : tie.Need-returns-2
 returns-2 c = search rules
 
 returns-3 : tie.Need-returns-3
-returns-3 c = search law.bytes-part
+returns-3 c = search law.bytes_part
 
 pub bytes-of-spec : {M : Type 1} → statement M
 bytes-of-spec =

@@ -16,7 +16,7 @@ compare-items-requires : tie.Need-compare-items-requires
 compare-items-requires c κs = search rules
 
 returns : tie.Need-returns
-returns c = search law.spot-compared
+returns c = search law.spot_compared
 
 pub compare-spot-spec : {M : Type 1} → statement M
 compare-spot-spec =

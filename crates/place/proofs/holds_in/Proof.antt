@@ -10,7 +10,7 @@ compare-items-requires : tie.Need-compare-items-requires
 compare-items-requires c κs = search rules
 
 returns : tie.Need-returns
-returns c = search law.compared-in
+returns c = search law.compared_in
 
 pub holds-in-spec : {M : Type 1} → statement M
 holds-in-spec = tie.close (tie.spec read-item-requires compare-items-requires returns)

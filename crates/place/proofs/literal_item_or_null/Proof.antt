@@ -19,16 +19,16 @@ enum-known-x : tie.Need-enum-known-x
 enum-known-x c = search rules
 
 returns : tie.Need-returns
-returns c = search law.literal-misfit
+returns c = search law.literal_misfit
 
 returns-2 : tie.Need-returns-2
-returns-2 c = search law.literal-over
+returns-2 c = search law.literal_over
 
 returns-3 : tie.Need-returns-3
-returns-3 c = search law.literal-malformed
+returns-3 c = search law.literal_malformed
 
 returns-4 : tie.Need-returns-4
-returns-4 c = search law.literal-value
+returns-4 c = search law.literal_value_law
 
 pub literal-item-or-null-spec : {M : Type 1} → statement M
 literal-item-or-null-spec =

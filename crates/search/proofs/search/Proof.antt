@@ -22,10 +22,10 @@ turn-requires : tie.Need-turn-requires
 turn-requires c κs = search rules
 
 returns : tie.Need-returns
-returns c = search law.search-null
+returns c = search law.search_null
 
 returns-2 : tie.Need-returns-2
-returns-2 c = search law.search-body
+returns-2 c = search law.search_body
 
 pub search-spec : {M : Type 1} → statement M
 search-spec =

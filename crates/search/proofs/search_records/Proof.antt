@@ -17,14 +17,14 @@ use Rattle.search.proofs.search_records.Tie as tie
 
 abbrev invariant-loop : tie.invariant-loop
 invariant-loop any op a of b y at₀ n₀ at n = (searched false any op (some (elements_of of a)) (item_value b y)
-    ≡ law.searchFrom any (besides op (item_value b y)) n (elements of a (records a at)))
+    ≡ law.search_from any (besides op (item_value b y)) n (elements of a (records a at)))
     × (n ≤ at + 1)
 
 abbrev decreases-loop : tie.decreases-loop
 decreases-loop any op a of b y at₀ n₀ at n = length a - at
 
 loop-holds : tie.Need-loop-init invariant-loop decreases-loop
-loop-holds c = (law.search-start _ _ _ _ _, search rules)
+loop-holds c = (law.search_start _ _ _ _ _, search rules)
 
 record-at-requires : tie.Need-record-at-requires invariant-loop decreases-loop
 record-at-requires c κs = search rules
@@ -48,7 +48,7 @@ loop-less : tie.Need-loop-smaller invariant-loop decreases-loop
 loop-less c = search reach.step_less
 
 loop-again : tie.Need-loop-preserved invariant-loop decreases-loop
-loop-again c = (search law.search-next, search law.step_counts)
+loop-again c = (search law.search_next, search law.step_counts)
 
 enum_told : tie.Need-enum-told invariant-loop decreases-loop
 enum_told c = search rules
@@ -63,13 +63,13 @@ undecided-requires-2 : tie.Need-undecided-requires-2 invariant-loop decreases-lo
 undecided-requires-2 c κs = search rules
 
 returns : tie.Need-returns invariant-loop decreases-loop
-returns c = search law.search-decided
+returns c = search law.search_decided
 
 returns-2 : tie.Need-returns-2 invariant-loop decreases-loop
-returns-2 c = search law.search-broken
+returns-2 c = search law.search_broken
 
 returns-3 : tie.Need-returns-3 invariant-loop decreases-loop
-returns-3 c = search law.search-end
+returns-3 c = search law.search_end
 
 pub search-records-spec : {M : Type 1} → statement M
 search-records-spec =

@@ -7,7 +7,7 @@ hex-octets-requires : tie.Need-hex-octets-requires
 hex-octets-requires c κs = search rules
 
 returns : tie.Need-returns
-returns c = search law.octets-past
+returns c = search law.octets_past
 
 add-if2 : tie.Need-overflow-add-if2
 add-if2 c = search rules
@@ -16,7 +16,7 @@ hex-octets-requires-2 : tie.Need-hex-octets-requires-2
 hex-octets-requires-2 c κs = search rules
 
 returns-2 : tie.Need-returns-2
-returns-2 c = search law.octets-short
+returns-2 c = search law.octets_short
 
 add-hex-octets : tie.Need-overflow-add-hex-octets
 add-hex-octets c = search rules
@@ -31,7 +31,7 @@ hex-octets-requires-3 : tie.Need-hex-octets-requires-3
 hex-octets-requires-3 c κs = search rules
 
 returns-3 : tie.Need-returns-3
-returns-3 c = search law.octets-pairs
+returns-3 c = search law.octets_pairs
 
 pub octets-item-spec : {M : Type 1} → statement M
 octets-item-spec =

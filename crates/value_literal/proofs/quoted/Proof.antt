@@ -7,7 +7,7 @@ after-quote-requires : tie.Need-after-quote-requires
 after-quote-requires c κs = search rules
 
 returns : tie.Need-returns
-returns c = search law.quoted-units
+returns c = search law.quoted_units
 
 pub quoted-spec : {M : Type 1} → statement M
 quoted-spec = tie.close (tie.spec after-quote-requires returns)

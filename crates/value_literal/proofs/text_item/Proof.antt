@@ -58,35 +58,35 @@ quoted-requires-7 c κs = search rules
 
 returns : tie.Need-returns
 unfolding text_value
-returns c = rw c.before.enum_told.given.1 (c.quoted.ensures ∙ law.quoted-text _ _)
+returns c = rw c.before.enum_told.given.1 (c.quoted.ensures ∙ law.quoted_text _ _)
 
 returns-2 : tie.Need-returns-2
 unfolding text_value
-returns-2 c = rw c.before.enum-told2.given.1 (c.quoted2.ensures ∙ law.quoted-text _ _)
+returns-2 c = rw c.before.enum-told2.given.1 (c.quoted2.ensures ∙ law.quoted_text _ _)
 
 returns-3 : tie.Need-returns-3
 unfolding text_value
-returns-3 c = rw c.before.enum-told3.given.1 (c.quoted3.ensures ∙ law.quoted-text _ _)
+returns-3 c = rw c.before.enum-told3.given.1 (c.quoted3.ensures ∙ law.quoted_text _ _)
 
 returns-4 : tie.Need-returns-4
 unfolding text_value
-returns-4 c = rw c.before.enum-told4.given.1 (c.quoted4.ensures ∙ law.quoted-text _ _)
+returns-4 c = rw c.before.enum-told4.given.1 (c.quoted4.ensures ∙ law.quoted_text _ _)
 
 returns-5 : tie.Need-returns-5
 unfolding text_value
-returns-5 c = rw c.before.enum-told5.given.1 (c.quoted5.ensures ∙ law.quoted-text _ _)
+returns-5 c = rw c.before.enum-told5.given.1 (c.quoted5.ensures ∙ law.quoted_text _ _)
 
 returns-6 : tie.Need-returns-6
 unfolding text_value
-returns-6 c = rw c.before.enum-told6.given.1 (c.quoted6.ensures ∙ law.quoted-text _ _)
+returns-6 c = rw c.before.enum-told6.given.1 (c.quoted6.ensures ∙ law.quoted_text _ _)
 
 returns-7 : tie.Need-returns-7
 unfolding text_value
-returns-7 c = rw c.before.before.enum-told7.given.1 (law.quoted-datetime _ _ _ c.before.after-quote.ensures _ c.datetime-in.ensures)
+returns-7 c = rw c.before.before.enum-told7.given.1 (law.quoted_datetime _ _ _ c.before.after-quote.ensures _ c.datetime-in.ensures)
 
 returns-8 : tie.Need-returns-8
 unfolding text_value
-returns-8 c = rw c.before.enum-told8.given.1 (c.quoted7.ensures ∙ law.quoted-reference _ _)
+returns-8 c = rw c.before.enum-told8.given.1 (c.quoted7.ensures ∙ law.quoted_reference _ _)
 
 pub text-item-spec : {M : Type 1} → statement M
 text-item-spec =

@@ -22,19 +22,19 @@ enum-told-2 : tie.Need-enum-told-2
 enum-told-2 c = search rules
 
 conjoin-accepted-requires : tie.Need-conjoin-accepted-requires
-conjoin-accepted-requires c κs = (search law.accepted-short, search law.accepted-short)
+conjoin-accepted-requires c κs = (search law.accepted_short, search law.accepted_short)
 
 returns : tie.Need-returns
-returns c = (search law.first-refused, search law.first-leaves, search rules)
+returns c = (search law.first_refused, search law.first_leaves, search rules)
 
 returns-2 : tie.Need-returns-2
-returns-2 c = (search law.second-refused, search law.second-leaves, search rules)
+returns-2 c = (search law.second_refused, search law.second_leaves, search rules)
 
 same_length : tie.Need-same-length
 same_length c = search rules
 
 returns-3 : tie.Need-returns-3
-returns-3 c = (search law.both-answer, search law.both-leave, search rules)
+returns-3 c = (search law.both_answer, search law.both_leave, search rules)
 
 pub conjoin-spec : {M : Type 1} → statement M
 conjoin-spec =

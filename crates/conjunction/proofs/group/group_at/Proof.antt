@@ -22,7 +22,7 @@ token-after-requires-4 : tie.Need-token-after-requires-4
 token-after-requires-4 c κs = search rules
 
 returns : tie.Need-returns
-returns c = search law.group-made
+returns c = search law.group_made
 
 pub group-at-spec : {M : Type 1} → statement M
 group-at-spec =

@@ -22,13 +22,13 @@ is-inside-requires : tie.Need-is-inside-requires invariant-loop decreases-loop
 is-inside-requires c κs = search rules
 
 returns : tie.Need-returns invariant-loop decreases-loop
-returns c = search law.last-here
+returns c = search law.last_here
 
 loop-less : tie.Need-loop-smaller invariant-loop decreases-loop
-loop-less c = search law.last-nearer
+loop-less c = search law.last_nearer
 
 loop-again : tie.Need-loop-preserved invariant-loop decreases-loop
-loop-again c = search law.last-further
+loop-again c = search law.last_further
 
 pub last-of-spec : {M : Type 1} → statement M
 last-of-spec =

@@ -12,7 +12,7 @@ abbrev decreases-loop : tie.decreases-loop
 decreases-loop q token₀ token = left q token
 
 loop-holds : tie.Need-loop-init invariant-loop decreases-loop
-loop-holds c = law.search-begins
+loop-holds c = law.search_begins
 
 group-at-requires : tie.Need-group-at-requires invariant-loop decreases-loop
 group-at-requires c κs = search rules
@@ -30,16 +30,16 @@ enum-told-2 : tie.Need-enum-told-2 invariant-loop decreases-loop
 enum-told-2 c = search rules
 
 returns-2 : tie.Need-returns-2 invariant-loop decreases-loop
-returns-2 c = search law.found-term
+returns-2 c = search law.found_term
 
 enum-told-3 : tie.Need-enum-told-3 invariant-loop decreases-loop
 enum-told-3 c = search rules
 
 loop-less : tie.Need-loop-smaller invariant-loop decreases-loop
-loop-less c = search law.search-nearer
+loop-less c = search law.search_nearer
 
 loop-again : tie.Need-loop-preserved invariant-loop decreases-loop
-loop-again c = search law.search-on
+loop-again c = search law.search_on
 
 pub next-term-spec : {M : Type 1} → statement M
 next-term-spec =

@@ -10,7 +10,7 @@ count-from-requires : tie.Need-count-from-requires
 count-from-requires c κs = search rules
 
 returns : tie.Need-returns
-returns c = search law.counted-query
+returns c = search law.counted_query
 
 pub count-comparisons-spec : {M : Type 1} → statement M
 count-comparisons-spec = tie.close (tie.spec open-query-requires count-from-requires returns)

@@ -16,7 +16,7 @@ abbrev decreases-loop : tie.decreases-loop
 decreases-loop q grouped token₀ read₀ token read = 64 - read
 
 loop-holds : tie.Need-loop-init invariant-loop decreases-loop
-loop-holds c = law.further-none _
+loop-holds c = law.further_none _
 
 read-next-requires : tie.Need-read-next-requires invariant-loop decreases-loop
 read-next-requires c κs = search rules
@@ -25,7 +25,7 @@ enum_told : tie.Need-enum-told invariant-loop decreases-loop
 enum_told c = search rules
 
 returns : tie.Need-returns invariant-loop decreases-loop
-returns c = search law.counted-bad
+returns c = search law.counted_bad
 
 enum-known-join : tie.Need-enum-known-join invariant-loop decreases-loop
 enum-known-join c = search rules
@@ -37,16 +37,16 @@ is-last-requires : tie.Need-is-last-requires invariant-loop decreases-loop
 is-last-requires c κs = search rules
 
 returns-2 : tie.Need-returns-2 invariant-loop decreases-loop
-returns-2 c = search law.counted-last
+returns-2 c = search law.counted_last
 
 loop-less : tie.Need-loop-smaller invariant-loop decreases-loop
 loop-less c = search rules
 
 loop-again : tie.Need-loop-preserved invariant-loop decreases-loop
-loop-again c = search law.counted-more
+loop-again c = search law.counted_more
 
 returns-3 : tie.Need-returns-3 invariant-loop decreases-loop
-returns-3 c = search law.counted-out
+returns-3 c = search law.counted_out
 
 pub count-from-spec : {M : Type 1} → statement M
 count-from-spec =

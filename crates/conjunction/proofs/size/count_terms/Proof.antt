@@ -20,7 +20,7 @@ first-token-requires : tie.Need-first-token-requires invariant-loop decreases-lo
 first-token-requires c κs = search rules
 
 loop-holds : tie.Need-loop-init invariant-loop decreases-loop
-loop-holds c = search law.terms-begin
+loop-holds c = search law.terms_begin
 
 next-term-requires : tie.Need-next-term-requires invariant-loop decreases-loop
 next-term-requires c κs = search rules
@@ -29,19 +29,19 @@ enum_told : tie.Need-enum-told invariant-loop decreases-loop
 enum_told c = search rules
 
 returns : tie.Need-returns invariant-loop decreases-loop
-returns c = search law.terms-all
+returns c = search law.terms_all
 
 enum-known-next : tie.Need-enum-known-next invariant-loop decreases-loop
 enum-known-next c = search rules
 
 add-terms : tie.Need-overflow-add-terms invariant-loop decreases-loop
-add-terms c = let m = law.terms-fit _ _ _ c.before.before.before.before.loop.invariant c.before.before.before.next-term.ensures _ c.before.next.given.1 c.before.before.before.before.before.before.before.requires in omega arith
+add-terms c = let m = law.terms_fit _ _ _ c.before.before.before.before.loop.invariant c.before.before.before.next-term.ensures _ c.before.next.given.1 c.before.before.before.before.before.before.before.requires in omega arith
 
 loop-less : tie.Need-loop-smaller invariant-loop decreases-loop
-loop-less c = search reading.term-nearer
+loop-less c = search reading.term_nearer
 
 loop-again : tie.Need-loop-preserved invariant-loop decreases-loop
-loop-again c = search law.terms-more
+loop-again c = search law.terms_more
 
 pub count-terms-spec : {M : Type 1} → statement M
 count-terms-spec =

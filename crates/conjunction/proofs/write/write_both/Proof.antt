@@ -19,7 +19,7 @@ same_length : tie.Need-same-length
 same_length c = search rules
 
 returns : tie.Need-returns
-returns c = search law.both-written
+returns c = search law.both_written
 
 pub write-both-spec : {M : Type 1} → statement M
 write-both-spec =

@@ -18,7 +18,7 @@ first-token-requires : tie.Need-first-token-requires invariant-loop decreases-lo
 first-token-requires c κs = search rules
 
 loop-holds : tie.Need-loop-init invariant-loop decreases-loop
-loop-holds c = search law.products-begin
+loop-holds c = search law.products_begin
 
 write-beside-requires : tie.Need-write-beside-requires invariant-loop decreases-loop
 write-beside-requires c κs = search rules
@@ -30,10 +30,10 @@ enum_told : tie.Need-enum-told invariant-loop decreases-loop
 enum_told c = search rules
 
 same_length : tie.Need-same-length invariant-loop decreases-loop
-same_length c = search law.writing-same
+same_length c = search law.writing_same
 
 returns : tie.Need-returns invariant-loop decreases-loop
-returns c = search law.products-done
+returns c = search law.products_done
 
 enum-known-next : tie.Need-enum-known-next invariant-loop decreases-loop
 enum-known-next c = search rules
@@ -45,10 +45,10 @@ write-text-requires : tie.Need-write-text-requires invariant-loop decreases-loop
 write-text-requires c κs = search rules
 
 loop-less : tie.Need-loop-smaller invariant-loop decreases-loop
-loop-less c = search reading.term-nearer
+loop-less c = search reading.term_nearer
 
 loop-again : tie.Need-loop-preserved invariant-loop decreases-loop
-loop-again c = search law.products-go-on
+loop-again c = search law.products_go_on
 
 pub write-conjunction-spec : {M : Type 1} → statement M
 write-conjunction-spec =

@@ -19,7 +19,7 @@ same_length : tie.Need-same-length
 same_length c = search rules
 
 returns : tie.Need-returns
-returns c = search law.group-written
+returns c = search law.group_written
 
 pub write-group-spec : {M : Type 1} → statement M
 write-group-spec =

@@ -27,10 +27,10 @@ enum_told : tie.Need-enum-told invariant-loop decreases-loop
 enum_told c = search rules
 
 same_length : tie.Need-same-length invariant-loop decreases-loop
-same_length c = search law.writing-same
+same_length c = search law.writing_same
 
 returns : tie.Need-returns invariant-loop decreases-loop
-returns c = search law.term-done
+returns c = search law.term_done
 
 enum-known-joining : tie.Need-enum-known-joining invariant-loop decreases-loop
 enum-known-joining c = search rules
@@ -39,10 +39,10 @@ enum-told-2 : tie.Need-enum-told-2 invariant-loop decreases-loop
 enum-told-2 c = search rules
 
 same-length-2 : tie.Need-same-length-2 invariant-loop decreases-loop
-same-length-2 c = search law.writing-same
+same-length-2 c = search law.writing_same
 
 returns-2 : tie.Need-returns-2 invariant-loop decreases-loop
-returns-2 c = search law.term-before-or
+returns-2 c = search law.term_before_or
 
 enum-told-3 : tie.Need-enum-told-3 invariant-loop decreases-loop
 enum-told-3 c = search rules
@@ -54,10 +54,10 @@ write-text-requires : tie.Need-write-text-requires invariant-loop decreases-loop
 write-text-requires c κs = search rules
 
 loop-less : tie.Need-loop-smaller invariant-loop decreases-loop
-loop-less c = search reading.group-nearer
+loop-less c = search reading.group_nearer
 
 loop-again : tie.Need-loop-preserved invariant-loop decreases-loop
-loop-again c = search law.term-goes-on
+loop-again c = search law.term_goes_on
 
 pub write-term-spec : {M : Type 1} → statement M
 write-term-spec =

@@ -11,10 +11,10 @@ add-result : tie.Need-overflow-add-result
 add-result c = search rules
 
 returns : tie.Need-returns
-returns c = (law.with-leap-day c.before.before.args.leap c.before.before.args.m c.before.before.requires.1 c.before.days-before-month-of-common-year.ensures.0 c.if1.true, omega (arith, c.before.days-before-month-of-common-year.ensures.1))
+returns c = (law.with_leap_day c.before.before.args.leap c.before.before.args.m c.before.before.requires.1 c.before.days-before-month-of-common-year.ensures.0 c.if1.true, omega (arith, c.before.days-before-month-of-common-year.ensures.1))
 
 returns-2 : tie.Need-returns-2
-returns-2 c = (law.without-leap-day c.before.before.args.leap c.before.before.args.m c.before.before.requires.1 c.before.days-before-month-of-common-year.ensures.0 c.if1.false, omega (arith, c.before.days-before-month-of-common-year.ensures.1))
+returns-2 c = (law.without_leap_day c.before.before.args.leap c.before.before.args.m c.before.before.requires.1 c.before.days-before-month-of-common-year.ensures.0 c.if1.false, omega (arith, c.before.days-before-month-of-common-year.ensures.1))
 
 pub days-before-month-spec : {M : Type 1} → statement M
 days-before-month-spec =

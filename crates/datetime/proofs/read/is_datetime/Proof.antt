@@ -7,7 +7,7 @@ is-exact-requires : tie.Need-is-exact-requires
 is-exact-requires c κs = search rules
 
 returns : tie.Need-returns
-returns c = law.exact-says _ c.before.is-exact.ensures c.if1.true
+returns c = law.exact_says _ c.before.is-exact.ensures c.if1.true
 
 is-starred-requires : tie.Need-is-starred-requires
 is-starred-requires c κs = search rules

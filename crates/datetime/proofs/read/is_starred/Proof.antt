@@ -5,7 +5,7 @@ use Rattle.datetime.proofs.read.is_starred.Statement.{statement}
 use Rattle.datetime.proofs.read.is_starred.Tie as tie
 
 returns : tie.Need-returns
-returns c = law.says-long _ (known_most _) c.if1.true
+returns c = law.says_long _ (known_most _) c.if1.true
 
 known-in-requires : tie.Need-known-in-requires
 known-in-requires c κs = search rules
@@ -14,7 +14,7 @@ is-tailed-requires : tie.Need-is-tailed-requires
 is-tailed-requires c κs = search rules
 
 returns-2 : tie.Need-returns-2
-returns-2 c = law.no-tail _ c.before.before.known_in.ensures.0 c.before.is-tailed.ensures c.if2.true
+returns-2 c = law.no_tail _ c.before.before.known_in.ensures.0 c.before.is-tailed.ensures c.if2.true
 
 shared-slice-read-may-start : tie.Need-shared-slice-read-may-start
 shared-slice-read-may-start c = search rules
@@ -38,7 +38,7 @@ is-exact-requires : tie.Need-is-exact-requires
 is-exact-requires c κs = search rules
 
 returns-4 : tie.Need-returns-4
-returns-4 c = law.known-digits _ c.before.before.before.before.before.before.before.before.before.before.known_in.ensures.0 c.before.before.before.before.before.before.before.before.before.is-tailed.ensures c.before.before.before.before.before.before.before.before.if2.false c.before.before.before.before.before.before.may-start.ensures c.before.before.before.before.before.if3.false c.before.before.before.fill-lowest.ensures c.is-exact.ensures
+returns-4 c = law.known_digits _ c.before.before.before.before.before.before.before.before.before.before.known_in.ensures.0 c.before.before.before.before.before.before.before.before.before.is-tailed.ensures c.before.before.before.before.before.before.before.before.if2.false c.before.before.before.before.before.before.may-start.ensures c.before.before.before.before.before.if3.false c.before.before.before.fill-lowest.ensures c.is-exact.ensures
 
 pub is-starred-spec : {M : Type 1} → statement M
 is-starred-spec =

@@ -12,10 +12,10 @@ is-exact-requires : tie.Need-is-exact-requires
 is-exact-requires c κs = search rules
 
 microseconds-in-requires : tie.Need-microseconds-in-requires
-microseconds-in-requires c κs = law.is-exact _ c.before.is-exact.ensures c.if1.true
+microseconds-in-requires c κs = law.is_exact _ c.before.is-exact.ensures c.if1.true
 
 shared-slice-read-sort-by-sign : tie.Need-shared-slice-read-sort-by-sign
-shared-slice-read-sort-by-sign c = (shape_of _ (exact_shaped _ (law.is-exact _ c.before.before.before.is-exact.ensures c.before.before.if1.true))).sign
+shared-slice-read-sort-by-sign c = (shape_of _ (exact_shaped _ (law.is_exact _ c.before.before.before.is-exact.ensures c.before.before.if1.true))).sign
 
 sort-by-sign-requires : tie.Need-sort-by-sign-requires
 sort-by-sign-requires c κs = search rules
@@ -39,7 +39,7 @@ sort-by-sign-requires-2 : tie.Need-sort-by-sign-requires-2
 sort-by-sign-requires-2 c κs = search rules
 
 returns-3 : tie.Need-returns-3
-returns-3 c = law.says-span _ c.before.before.before.before.is-starred.ensures c.before.before.before.if2.false c.before.before.span-in.ensures c.sort-by-sign2.ensures
+returns-3 c = law.says_span _ c.before.before.before.before.is-starred.ensures c.before.before.before.if2.false c.before.before.span-in.ensures c.sort-by-sign2.ensures
 
 pub read-datetime-spec : {M : Type 1} → statement M
 read-datetime-spec =

@@ -18,19 +18,19 @@ slice-aggregate-microseconds-in : tie.Need-slice-aggregate-microseconds-in
 slice-aggregate-microseconds-in c = search rules
 
 microseconds-in-requires : tie.Need-microseconds-in-requires
-microseconds-in-requires c κs = law.lowest-read _ c.before.before.before.before.before.before.requires c.before.before.before.before.known_in.ensures.0 c.before.before.fill-lowest.ensures
+microseconds-in-requires c κs = law.lowest_read _ c.before.before.before.before.before.before.requires c.before.before.before.before.known_in.ensures.0 c.before.before.fill-lowest.ensures
 
 slice-aggregate-fill-highest : tie.Need-slice-aggregate-fill-highest
 slice-aggregate-fill-highest c = search rules
 
 fill-highest-requires : tie.Need-fill-highest-requires
-fill-highest-requires c κs = (law.says-known _ c.before.before.before.before.before.before.before.before.requires c.before.before.before.before.before.before.known_in.ensures.0, c.before.before.before.before.before.before.known_in.ensures.1, search rules)
+fill-highest-requires c κs = (law.says_known _ c.before.before.before.before.before.before.before.before.requires c.before.before.before.before.before.before.known_in.ensures.0, c.before.before.before.before.before.before.known_in.ensures.1, search rules)
 
 slice-aggregate-microseconds-in-2 : tie.Need-slice-aggregate-microseconds-in-2
 slice-aggregate-microseconds-in-2 c = search rules
 
 microseconds-in-requires-2 : tie.Need-microseconds-in-requires-2
-microseconds-in-requires-2 c κs = law.highest-read _ c.before.before.before.before.before.before.before.before.before.before.before.requires c.before.before.before.before.before.before.before.before.before.known_in.ensures.0 c.before.before.fill-highest.ensures
+microseconds-in-requires-2 c κs = law.highest_read _ c.before.before.before.before.before.before.before.before.before.before.before.requires c.before.before.before.before.before.before.before.before.before.known_in.ensures.0 c.before.before.fill-highest.ensures
 
 returns : tie.Need-returns
 returns c = law.spans _ c.before.before.before.before.before.before.before.before.before.before.before.before.requires c.before.before.before.before.before.before.before.before.before.before.known_in.ensures.0 c.before.before.before.before.before.before.before.before.fill-lowest.ensures c.before.before.before.before.before.microseconds-in.ensures c.before.before.before.fill-highest.ensures c.microseconds-in2.ensures

@@ -22,13 +22,13 @@ same_length : tie.Need-same-length
 same_length c = search rules
 
 returns : tie.Need-returns
-returns c = law.lowest-interval _ _ c.before.before.before.before.before.if1.true c.before.before.fill.ensures
+returns c = law.lowest_interval _ _ c.before.before.before.before.before.if1.true c.before.before.fill.ensures
 
 same-length-2 : tie.Need-same-length-2
 same-length-2 c = search rules
 
 returns-2 : tie.Need-returns-2
-returns-2 c = law.lowest-timestamp _ _ c.before.before.before.before.before.if1.false c.before.before.fill2.ensures
+returns-2 c = law.lowest_timestamp _ _ c.before.before.before.before.before.if1.false c.before.before.fill2.ensures
 
 pub fill-lowest-spec : {M : Type 1} → statement M
 fill-lowest-spec =

@@ -22,7 +22,7 @@ tail-byte-requires : tie.Need-tail-byte-requires invariant-loop decreases-loop
 tail-byte-requires c κs = search rules
 
 returns : tie.Need-returns invariant-loop decreases-loop
-returns c = law.tail-broken _ _ _ c.before.before.before.before.loop.invariant.0 c.before.before.before.loop-test.true c.before.before.before.before.before.before.requires.0 c.before.tail-byte.ensures c.if1.true
+returns c = law.tail_broken _ _ _ c.before.before.before.before.loop.invariant.0 c.before.before.before.loop-test.true c.before.before.before.before.before.before.requires.0 c.before.tail-byte.ensures c.if1.true
 
 add-i : tie.Need-overflow-add-i invariant-loop decreases-loop
 add-i c = search rules
@@ -31,10 +31,10 @@ loop-less : tie.Need-loop-smaller invariant-loop decreases-loop
 loop-less c = search rules
 
 loop-again : tie.Need-loop-preserved invariant-loop decreases-loop
-loop-again c = (law.tail-goes-on _ _ _ c.before.before.before.before.loop.invariant.0 c.before.before.before.loop-test.true c.before.before.before.before.before.before.requires.0 c.before.tail-byte.ensures c.if1.false, search rules)
+loop-again c = (law.tail_goes_on _ _ _ c.before.before.before.before.loop.invariant.0 c.before.before.before.loop-test.true c.before.before.before.before.before.before.requires.0 c.before.tail-byte.ensures c.if1.false, search rules)
 
 returns-2 : tie.Need-returns-2 invariant-loop decreases-loop
-returns-2 c = law.tail-whole _ _ _ c.before.loop.invariant.0 c.before.loop.invariant.1 c.loop-test.false
+returns-2 c = law.tail_whole _ _ _ c.before.loop.invariant.0 c.before.loop.invariant.1 c.loop-test.false
 
 pub is-tailed-spec : {M : Type 1} → statement M
 is-tailed-spec =

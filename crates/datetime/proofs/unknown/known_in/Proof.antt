@@ -21,7 +21,7 @@ byte-at-requires : tie.Need-byte-at-requires invariant-loop decreases-loop
 byte-at-requires c κs = search rules
 
 returns : tie.Need-returns invariant-loop decreases-loop
-returns c = (law.star-found _ _ c.before.before.before.loop.invariant.1 c.before.before.loop-test.true c.before.byte_at.ensures c.if1.true, omega arith)
+returns c = (law.star_found _ _ c.before.before.before.loop.invariant.1 c.before.before.loop-test.true c.before.byte_at.ensures c.if1.true, omega arith)
 
 add-i : tie.Need-overflow-add-i invariant-loop decreases-loop
 add-i c = search rules
@@ -30,10 +30,10 @@ loop-less : tie.Need-loop-smaller invariant-loop decreases-loop
 loop-less c = search rules
 
 loop-again : tie.Need-loop-preserved invariant-loop decreases-loop
-loop-again c = (search rules, law.star-later _ _ c.before.before.before.loop.invariant.1 c.before.before.loop-test.true c.before.byte_at.ensures c.if1.false)
+loop-again c = (search rules, law.star_later _ _ c.before.before.before.loop.invariant.1 c.before.before.loop-test.true c.before.byte_at.ensures c.if1.false)
 
 returns-2 : tie.Need-returns-2 invariant-loop decreases-loop
-returns-2 c = (law.star-none _ _ c.before.loop.invariant.1 c.before.loop.invariant.0 c.loop-test.false, omega arith)
+returns-2 c = (law.star_none _ _ c.before.loop.invariant.1 c.before.loop.invariant.0 c.loop-test.false, omega arith)
 
 pub known-in-spec : {M : Type 1} → statement M
 known-in-spec =

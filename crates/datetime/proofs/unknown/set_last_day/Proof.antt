@@ -10,7 +10,7 @@ is-leap-year-requires : tie.Need-is-leap-year-requires
 is-leap-year-requires c κs = search rules
 
 days-in-month-requires : tie.Need-days-in-month-requires
-days-in-month-requires c κs = law.month-there _ c.before.date-in.ensures c.before.before.before.before.requires.1 c.before.before.before.before.requires.2
+days-in-month-requires c κs = law.month_there _ c.before.date-in.ensures c.before.before.before.before.requires.1 c.before.before.before.before.requires.2
 
 write-decimal-requires : tie.Need-write-decimal-requires
 write-decimal-requires c κs = search rules
@@ -19,7 +19,7 @@ same_length : tie.Need-same-length
 same_length c = search rules
 
 returns : tie.Need-returns
-returns c = law.last-day-set _ c.before.before.before.before.before.before.date-in.ensures c.before.before.before.before.before.is-leap-year.ensures c.before.before.before.before.days-in-month.ensures c.before.before.write-decimal.ensures
+returns c = law.last_day_set _ c.before.before.before.before.before.before.date-in.ensures c.before.before.before.before.before.is-leap-year.ensures c.before.before.before.before.days-in-month.ensures c.before.before.write-decimal.ensures
 
 pub set-last-day-spec : {M : Type 1} → statement M
 set-last-day-spec =

@@ -16,7 +16,7 @@ check-under-requires : tie.Need-check-under-requires
 check-under-requires c κs = search rules
 
 returns : tie.Need-returns
-returns c = search law.table-refused
+returns c = search law.table_refused
 
 returns-2 : tie.Need-returns-2
 returns-2 c = search law.table_taken

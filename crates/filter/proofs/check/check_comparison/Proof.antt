@@ -13,10 +13,10 @@ enum_told : tie.Need-enum-told
 enum_told c = search rules
 
 returns : tie.Need-returns
-returns c = search law.comparison-fails
+returns c = search law.comparison_fails
 
 returns-2 : tie.Need-returns-2
-returns-2 c = search law.comparison-tells
+returns-2 c = search law.comparison_tells
 
 pub check-comparison-spec : {M : Type 1} → statement M
 check-comparison-spec =

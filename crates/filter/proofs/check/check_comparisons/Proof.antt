@@ -13,10 +13,10 @@ slice-aggregate-check-from : tie.Need-slice-aggregate-check-from
 slice-aggregate-check-from c = search rules
 
 check-from-requires : tie.Need-check-from-requires
-check-from-requires c κs = search law.begins-taken
+check-from-requires c κs = search law.begins_taken
 
 returns : tie.Need-returns
-returns c = search law.begins-checked
+returns c = search law.begins_checked
 
 pub check-comparisons-spec : {M : Type 1} → statement M
 check-comparisons-spec =

@@ -24,7 +24,7 @@ enum_told : tie.Need-enum-told invariant-loop decreases-loop
 enum_told c = search rules
 
 returns : tie.Need-returns invariant-loop decreases-loop
-returns c = search law.checked-none
+returns c = search law.checked_none
 
 enum-known-c : tie.Need-enum-known-c invariant-loop decreases-loop
 enum-known-c c = search rules
@@ -45,7 +45,7 @@ is-last-requires : tie.Need-is-last-requires invariant-loop decreases-loop
 is-last-requires c κs = search rules
 
 returns-3 : tie.Need-returns-3 invariant-loop decreases-loop
-returns-3 c = search law.checked-last
+returns-3 c = search law.checked_last
 
 sub-left : tie.Need-overflow-sub-left invariant-loop decreases-loop
 sub-left c = search rules
@@ -54,10 +54,10 @@ loop-less : tie.Need-loop-smaller invariant-loop decreases-loop
 loop-less c = search rules
 
 loop-again : tie.Need-loop-preserved invariant-loop decreases-loop
-loop-again c = (search law.checked-more, search law.taken_more)
+loop-again c = (search law.checked_more, search law.taken_more)
 
 returns-4 : tie.Need-returns-4 invariant-loop decreases-loop
-returns-4 c = search law.checked-out
+returns-4 c = search law.checked_out
 
 pub check-from-spec : {M : Type 1} → statement M
 check-from-spec =

@@ -13,13 +13,13 @@ enum_told : tie.Need-enum-told
 enum_told c = search rules
 
 check-comparisons-requires : tie.Need-check-comparisons-requires
-check-comparisons-requires c κs = search law.taken-query
+check-comparisons-requires c κs = search law.taken_query
 
 returns : tie.Need-returns
-returns c = search law.text-refused
+returns c = search law.text_refused
 
 returns-2 : tie.Need-returns-2
-returns-2 c = search law.text-taken
+returns-2 c = search law.text_taken
 
 pub check-under-spec : {M : Type 1} → statement M
 check-under-spec =

@@ -22,7 +22,7 @@ evaluate-accepted-requires : tie.Need-evaluate-accepted-requires
 evaluate-accepted-requires c κs = (search law.accepts, search rules, search rules)
 
 returns : tie.Need-returns
-returns c = search law.evaluate-refused
+returns c = search law.evaluate_refused
 
 returns-2 : tie.Need-returns-2
 returns-2 c = search rules

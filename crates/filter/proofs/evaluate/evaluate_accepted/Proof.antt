@@ -19,13 +19,13 @@ same_length : tie.Need-same-length
 same_length c = search rules
 
 returns : tie.Need-returns
-returns c = (search law.evaluate-nonconforming, search rules, search rules)
+returns c = (search law.evaluate_nonconforming, search rules, search rules)
 
 same-length-2 : tie.Need-same-length-2
 same-length-2 c = search rules
 
 returns-2 : tie.Need-returns-2
-returns-2 c = (search law.walked-answers, search rules, search rules)
+returns-2 c = (search law.walked_answers, search rules, search rules)
 
 pub evaluate-accepted-spec : {M : Type 1} → statement M
 evaluate-accepted-spec =

@@ -10,7 +10,7 @@ answer-of-requires : tie.Need-answer-of-requires
 answer-of-requires c κs = search rules
 
 returns : tie.Need-returns
-returns c = search law.noted-answers
+returns c = search law.noted_answers
 
 pub evaluate-noted-spec : {M : Type 1} → statement M
 evaluate-noted-spec = tie.close (tie.spec walk-from-requires answer-of-requires returns)

@@ -17,10 +17,10 @@ enum-known-x : tie.Need-enum-known-x
 enum-known-x c = search rules
 
 returns-2 : tie.Need-returns-2
-returns-2 c = (search law.judged-nothing, omega arith)
+returns-2 c = (search law.judged_nothing, omega arith)
 
 returns-3 : tie.Need-returns-3
-returns-3 c = (search law.judged-told, search law.judged-few)
+returns-3 c = (search law.judged_told, search law.judged_few)
 
 pub judge-if-spec : {M : Type 1} → statement M
 judge-if-spec =

@@ -25,7 +25,7 @@ enum-known-kind : tie.Need-enum-known-kind invariant-loop decreases-loop
 enum-known-kind c = search rules
 
 returns : tie.Need-returns invariant-loop decreases-loop
-returns c = search law.elements-many
+returns c = search law.elements_many
 
 piece-requires : tie.Need-piece-requires invariant-loop decreases-loop
 piece-requires c κs = search rules
@@ -34,7 +34,7 @@ element-fits-requires : tie.Need-element-fits-requires invariant-loop decreases-
 element-fits-requires c κs = search rules
 
 returns-2 : tie.Need-returns-2 invariant-loop decreases-loop
-returns-2 c = search law.elements-bad
+returns-2 c = search law.elements_bad
 
 add-count : tie.Need-overflow-add-count invariant-loop decreases-loop
 add-count c = search rules
@@ -43,19 +43,19 @@ loop-less : tie.Need-loop-smaller invariant-loop decreases-loop
 loop-less c = search reach.step_less
 
 loop-again : tie.Need-loop-preserved invariant-loop decreases-loop
-loop-again c = search law.elements-next
+loop-again c = search law.elements_next
 
 enum_told : tie.Need-enum-told invariant-loop decreases-loop
 enum_told c = search rules
 
 returns-3 : tie.Need-returns-3 invariant-loop decreases-loop
-returns-3 c = search law.elements-broken
+returns-3 c = search law.elements_broken
 
 enum-told-2 : tie.Need-enum-told-2 invariant-loop decreases-loop
 enum-told-2 c = search rules
 
 returns-4 : tie.Need-returns-4 invariant-loop decreases-loop
-returns-4 c = search law.elements-end
+returns-4 c = search law.elements_end
 
 pub array-fits-spec : {M : Type 1} → statement M
 array-fits-spec =

@@ -14,7 +14,7 @@ is-numeric-requires : tie.Need-is-numeric-requires
 is-numeric-requires c κs = search rules
 
 returns : tie.Need-returns
-returns c = search law.body-numeric
+returns c = search law.body_numeric
 
 value-fits-requires : tie.Need-value-fits-requires
 value-fits-requires c κs = search rules

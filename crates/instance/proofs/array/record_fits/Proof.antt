@@ -7,10 +7,10 @@ is-null-requires : tie.Need-is-null-requires
 is-null-requires c κs = search rules
 
 returns : tie.Need-returns
-returns c = search law.slot-null
+returns c = search law.slot_null
 
 returns-2 : tie.Need-returns-2
-returns-2 c = search law.slot-other
+returns-2 c = search law.slot_other
 
 kind-of-requires : tie.Need-kind-of-requires
 kind-of-requires c κs = search rules
@@ -19,7 +19,7 @@ body-fits-requires : tie.Need-body-fits-requires
 body-fits-requires c κs = search rules
 
 returns-3 : tie.Need-returns-3
-returns-3 c = search law.slot-body
+returns-3 c = search law.slot_body
 
 pub record-fits-spec : {M : Type 1} → statement M
 record-fits-spec =

@@ -7,7 +7,7 @@ is-datetime-requires : tie.Need-is-datetime-requires
 is-datetime-requires c κs = search rules
 
 returns : tie.Need-returns
-returns c = search law.datetime-fits
+returns c = search law.datetime_fits_law
 
 pub datetime-fits-spec : {M : Type 1} → statement M
 datetime-fits-spec = tie.close (tie.spec is-datetime-requires returns)

@@ -6,7 +6,7 @@ use Rattle.instance.proofs.conform.check_instance.Statement.{statement}
 use Rattle.instance.proofs.conform.check_instance.Tie as tie
 
 returns : tie.Need-returns
-returns c = (search law.fault-long, search noting.notes-long, search rules)
+returns c = (search law.fault_long, search noting.notes_long, search rules)
 
 first-property-requires : tie.Need-first-property-requires
 first-property-requires c κs = search rules
@@ -18,7 +18,7 @@ same_length : tie.Need-same-length
 same_length c = search rules
 
 returns-2 : tie.Need-returns-2
-returns-2 c = (law.fault-short _ _ c.before.before.before.before.before.if1.false _ (c.before.before.walk-beside.ensures.0 ∙ rw c.before.before.before.before.first-property.ensures), noting.notes-short _ _ _ c.before.before.before.before.before.if1.false (c.before.before.walk-beside.ensures.1 ∙ rw c.before.before.before.before.first-property.ensures), search rules)
+returns-2 c = (law.fault_short _ _ c.before.before.before.before.before.if1.false _ (c.before.before.walk-beside.ensures.0 ∙ rw c.before.before.before.before.first-property.ensures), noting.notes_short _ _ _ c.before.before.before.before.before.if1.false (c.before.before.walk-beside.ensures.1 ∙ rw c.before.before.before.before.first-property.ensures), search rules)
 
 pub check-instance-spec : {M : Type 1} → statement M
 check-instance-spec =

@@ -28,7 +28,7 @@ loop-less : tie.Need-loop-smaller invariant-loop decreases-loop
 loop-less c = search reach.step_less
 
 loop-again : tie.Need-loop-preserved invariant-loop decreases-loop
-loop-again c = search law.further-next
+loop-again c = search law.further_next
 
 enum_told : tie.Need-enum-told invariant-loop decreases-loop
 enum_told c = search rules
@@ -37,13 +37,13 @@ nonconforming-requires : tie.Need-nonconforming-requires invariant-loop decrease
 nonconforming-requires c κs = search rules
 
 returns : tie.Need-returns invariant-loop decreases-loop
-returns c = search law.further-broken
+returns c = search law.further_broken
 
 enum-told-2 : tie.Need-enum-told-2 invariant-loop decreases-loop
 enum-told-2 c = search rules
 
 returns-2 : tie.Need-returns-2 invariant-loop decreases-loop
-returns-2 c = search law.further-end
+returns-2 c = search law.further_end
 
 pub further-spec : {M : Type 1} → statement M
 further-spec =

@@ -16,7 +16,7 @@ record-fits-requires : tie.Need-record-fits-requires
 record-fits-requires c κs = search rules
 
 returns : tie.Need-returns
-returns c = search law.step-next
+returns c = search law.step_next
 
 enum_told : tie.Need-enum-told
 enum_told c = search rules
@@ -25,10 +25,10 @@ enum-told-2 : tie.Need-enum-told-2
 enum-told-2 c = search rules
 
 returns-2 : tie.Need-returns-2
-returns-2 c = search law.step-wrong
+returns-2 c = search law.step_wrong
 
 returns-3 : tie.Need-returns-3
-returns-3 c = search law.step-broken
+returns-3 c = search law.step_broken
 
 returns-4 : tie.Need-returns-4
 returns-4 c = search law.step_end

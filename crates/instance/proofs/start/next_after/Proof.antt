@@ -16,13 +16,13 @@ enum-told-2 : tie.Need-enum-told-2
 enum-told-2 c = search rules
 
 returns : tie.Need-returns
-returns c = search law.next-whole
+returns c = search law.next_whole
 
 returns-2 : tie.Need-returns-2
-returns-2 c = search law.next-broken
+returns-2 c = search law.next_broken
 
 returns-3 : tie.Need-returns-3
-returns-3 c = search law.next-end
+returns-3 c = search law.next_end
 
 pub next-after-spec : {M : Type 1} → statement M
 next-after-spec =

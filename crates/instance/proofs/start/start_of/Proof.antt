@@ -20,7 +20,7 @@ next-after-requires : tie.Need-next-after-requires invariant-loop decreases-loop
 next-after-requires c κs = search rules
 
 returns : tie.Need-returns invariant-loop decreases-loop
-returns c = search law.start-past
+returns c = search law.start_past
 
 add-n : tie.Need-overflow-add-n invariant-loop decreases-loop
 add-n c = search rules
@@ -29,10 +29,10 @@ loop-less : tie.Need-loop-smaller invariant-loop decreases-loop
 loop-less c = search rules
 
 loop-again : tie.Need-loop-preserved invariant-loop decreases-loop
-loop-again c = (search rules, search law.start-next)
+loop-again c = (search rules, search law.start_next)
 
 returns-2 : tie.Need-returns-2 invariant-loop decreases-loop
-returns-2 c = search law.start-end
+returns-2 c = search law.start_end
 
 pub start-of-spec : {M : Type 1} → statement M
 start-of-spec =

@@ -16,10 +16,10 @@ start-of-requires : tie.Need-start-of-requires
 start-of-requires c κs = search rules
 
 returns : tie.Need-returns
-returns c = search law.element-null
+returns c = search law.element_null
 
 returns-2 : tie.Need-returns-2
-returns-2 c = search law.element-there
+returns-2 c = search law.element_there
 
 pub element-spot-spec : {M : Type 1} → statement M
 element-spot-spec =

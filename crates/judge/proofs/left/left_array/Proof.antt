@@ -25,13 +25,13 @@ returns : tie.Need-returns
 returns c = search law.array_whole
 
 returns-2 : tie.Need-returns-2
-returns-2 c = search law.array-indexed
+returns-2 c = search law.array_indexed
 
 returns-3 : tie.Need-returns-3
-returns-3 c = search law.array-any
+returns-3 c = search law.array_any
 
 returns-4 : tie.Need-returns-4
-returns-4 c = search law.array-every
+returns-4 c = search law.array_every
 
 pub left-array-spec : {M : Type 1} → statement M
 left-array-spec =

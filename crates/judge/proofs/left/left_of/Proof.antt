@@ -25,13 +25,13 @@ left-array-requires : tie.Need-left-array-requires
 left-array-requires c κs = search rules
 
 returns : tie.Need-returns
-returns c = search law.left-unknown
+returns c = search law.left_unknown
 
 returns-2 : tie.Need-returns-2
-returns-2 c = search law.left-scalar
+returns-2 c = search law.left_scalar_law
 
 returns-3 : tie.Need-returns-3
-returns-3 c = search law.left-array
+returns-3 c = search law.left_array_law
 
 pub left-of-spec : {M : Type 1} → statement M
 left-of-spec =

@@ -19,16 +19,16 @@ enum-told-5 : tie.Need-enum-told-5
 enum-told-5 c = search rules
 
 returns : tie.Need-returns
-returns c = search law.scalar-one
+returns c = search law.scalar_one
 
 returns-2 : tie.Need-returns-2
-returns-2 c = search law.scalar-indexed
+returns-2 c = search law.scalar_indexed
 
 returns-3 : tie.Need-returns-3
-returns-3 c = search law.scalar-any
+returns-3 c = search law.scalar_any
 
 returns-4 : tie.Need-returns-4
-returns-4 c = search law.scalar-every
+returns-4 c = search law.scalar_every
 
 pub left-scalar-spec : {M : Type 1} → statement M
 left-scalar-spec =

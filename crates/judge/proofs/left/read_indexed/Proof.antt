@@ -16,10 +16,10 @@ enum_told : tie.Need-enum-told
 enum_told c = search rules
 
 returns : tie.Need-returns
-returns c = search law.indexed-reads
+returns c = search law.indexed_reads
 
 returns-2 : tie.Need-returns-2
-returns-2 c = search law.indexed-large
+returns-2 c = search law.indexed_large
 
 pub read-indexed-spec : {M : Type 1} → statement M
 read-indexed-spec =

@@ -13,7 +13,7 @@ same-row-requires-3 : tie.Need-same-row-requires-3
 same-row-requires-3 c κs = search rules
 
 returns : tie.Need-returns
-returns c = search law.ordered-by
+returns c = search law.ordered_by
 
 pub is-ordered-spec : {M : Type 1} → statement M
 is-ordered-spec =

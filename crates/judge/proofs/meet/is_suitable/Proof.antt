@@ -10,7 +10,7 @@ is-ordered-requires : tie.Need-is-ordered-requires
 is-ordered-requires c κs = search rules
 
 returns : tie.Need-returns
-returns c = search law.suits-by
+returns c = search law.suits_by
 
 pub is-suitable-spec : {M : Type 1} → statement M
 is-suitable-spec = tie.close (tie.spec is-equality-requires is-ordered-requires returns)

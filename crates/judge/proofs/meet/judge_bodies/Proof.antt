@@ -10,10 +10,10 @@ compare-bodies-requires : tie.Need-compare-bodies-requires
 compare-bodies-requires c κs = search rules
 
 returns : tie.Need-returns
-returns c = search law.bodies-told
+returns c = search law.bodies_told
 
 returns-2 : tie.Need-returns-2
-returns-2 c = search law.bodies-row
+returns-2 c = search law.bodies_row
 
 pub judge-bodies-spec : {M : Type 1} → statement M
 judge-bodies-spec =

@@ -7,7 +7,7 @@ is-equality-requires : tie.Need-is-equality-requires
 is-equality-requires c κs = search rules
 
 returns : tie.Need-returns
-returns c = search law.list-order
+returns c = search law.list_order
 
 check-elements-requires : tie.Need-check-elements-requires
 check-elements-requires c κs = search rules
@@ -25,13 +25,13 @@ compare-elements-requires : tie.Need-compare-elements-requires
 compare-elements-requires c κs = search rules
 
 returns-2 : tie.Need-returns-2
-returns-2 c = search law.list-alien
+returns-2 c = search law.list_alien
 
 returns-3 : tie.Need-returns-3
-returns-3 c = search law.list-fault
+returns-3 c = search law.list_fault
 
 returns-4 : tie.Need-returns-4
-returns-4 c = search law.list-told
+returns-4 c = search law.list_told
 
 pub judge-elements-spec : {M : Type 1} → statement M
 judge-elements-spec =

@@ -7,7 +7,7 @@ same-row-requires : tie.Need-same-row-requires
 same-row-requires c κs = search rules
 
 returns : tie.Need-returns
-returns c = search law.like-row
+returns c = search law.like_row
 
 enum-known-x : tie.Need-enum-known-x
 enum-known-x c = search rules
@@ -19,16 +19,16 @@ is-pattern-requires : tie.Need-is-pattern-requires
 is-pattern-requires c κs = search rules
 
 returns-2 : tie.Need-returns-2
-returns-2 c = search law.like-malformed
+returns-2 c = search law.like_malformed
 
 like-requires : tie.Need-like-requires
 like-requires c κs = search rules
 
 returns-3 : tie.Need-returns-3
-returns-3 c = search law.like-index
+returns-3 c = search law.like_index
 
 returns-4 : tie.Need-returns-4
-returns-4 c = search law.like-told
+returns-4 c = search law.like_told
 
 pub judge-like-spec : {M : Type 1} → statement M
 judge-like-spec =

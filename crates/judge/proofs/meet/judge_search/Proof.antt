@@ -17,10 +17,10 @@ search-requires : tie.Need-search-requires
 search-requires c κs = search rules
 
 returns : tie.Need-returns
-returns c = search law.search-fails
+returns c = search law.search_fails
 
 returns-2 : tie.Need-returns-2
-returns-2 c = search (law.search-ready, of_search)
+returns-2 c = search (law.search_ready, of_search)
 
 pub judge-search-spec : {M : Type 1} → statement M
 judge-search-spec =

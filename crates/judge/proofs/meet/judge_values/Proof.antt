@@ -16,10 +16,10 @@ tell-values-requires : tie.Need-tell-values-requires
 tell-values-requires c κs = search rules
 
 returns : tie.Need-returns
-returns c = search law.values-fail
+returns c = search law.values_fail
 
 returns-2 : tie.Need-returns-2
-returns-2 c = search law.values-ready
+returns-2 c = search law.values_ready
 
 pub judge-values-spec : {M : Type 1} → statement M
 judge-values-spec =

@@ -22,16 +22,16 @@ enum-told-3 : tie.Need-enum-told-3
 enum-told-3 c = search rules
 
 returns : tie.Need-returns
-returns c = search law.many-misshapen
+returns c = search law.many_misshapen
 
 returns-2 : tie.Need-returns-2
-returns-2 c = search law.many-one
+returns-2 c = search law.many_one
 
 returns-3 : tie.Need-returns-3
-returns-3 c = search law.many-many
+returns-3 c = search law.many_many
 
 returns-4 : tie.Need-returns-4
-returns-4 c = search law.many-each
+returns-4 c = search law.many_each
 
 pub meet-elements-spec : {M : Type 1} → statement M
 meet-elements-spec =

@@ -28,13 +28,13 @@ judge-search-requires : tie.Need-judge-search-requires
 judge-search-requires c κs = search rules
 
 returns : tie.Need-returns
-returns c = search law.one-misshapen
+returns c = search law.one_misshapen
 
 returns-2 : tie.Need-returns-2
-returns-2 c = search law.one-one
+returns-2 c = search law.one_one
 
 returns-3 : tie.Need-returns-3
-returns-3 c = search law.one-many
+returns-3 c = search law.one_many
 
 returns-4 : tie.Need-returns-4
 returns-4 c = search law.one_each

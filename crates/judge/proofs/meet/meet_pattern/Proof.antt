@@ -22,16 +22,16 @@ enum-told-3 : tie.Need-enum-told-3
 enum-told-3 c = search rules
 
 returns : tie.Need-returns
-returns c = search law.pattern-misshapen
+returns c = search law.pattern_misshapen
 
 returns-2 : tie.Need-returns-2
-returns-2 c = search law.pattern-one
+returns-2 c = search law.pattern_one
 
 returns-3 : tie.Need-returns-3
-returns-3 c = search law.pattern-many
+returns-3 c = search law.pattern_many
 
 returns-4 : tie.Need-returns-4
-returns-4 c = search law.pattern-each
+returns-4 c = search law.pattern_each
 
 pub meet-pattern-spec : {M : Type 1} → statement M
 meet-pattern-spec =

@@ -4,7 +4,7 @@ use Rattle.judge.proofs.meet.settle.Statement.{statement}
 use Rattle.judge.proofs.meet.settle.Tie as tie
 
 returns : tie.Need-returns
-returns c = search law.settle-row
+returns c = search law.settle_row
 
 enum_told : tie.Need-enum-told
 enum_told c = search rules
@@ -28,19 +28,19 @@ enum-known-x-3 : tie.Need-enum-known-x-3
 enum-known-x-3 c = search rules
 
 returns-2 : tie.Need-returns-2
-returns-2 c = search law.settle-unlike
+returns-2 c = search law.settle_unlike
 
 returns-3 : tie.Need-returns-3
-returns-3 c = search law.settle-index
+returns-3 c = search law.settle_index
 
 returns-4 : tie.Need-returns-4
-returns-4 c = search law.settle-faulty
+returns-4 c = search law.settle_faulty
 
 returns-5 : tie.Need-returns-5
-returns-5 c = search law.settle-large
+returns-5 c = search law.settle_large
 
 returns-6 : tie.Need-returns-6
-returns-6 c = search law.settle-ready
+returns-6 c = search law.settle_ready
 
 pub settle-spec : {M : Type 1} → statement M
 settle-spec =

@@ -16,10 +16,10 @@ value-of-row-requires : tie.Need-value-of-row-requires
 value-of-row-requires c κs = search rules
 
 returns : tie.Need-returns
-returns c = search law.right-whole
+returns c = search law.right_whole
 
 returns-2 : tie.Need-returns-2
-returns-2 c = search law.right-element
+returns-2 c = search law.right_element
 
 pub right-array-spec : {M : Type 1} → statement M
 right-array-spec =

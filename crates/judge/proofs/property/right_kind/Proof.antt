@@ -31,13 +31,13 @@ right-array-requires : tie.Need-right-array-requires
 right-array-requires c κs = search rules
 
 returns : tie.Need-returns
-returns c = search law.kind-unknown
+returns c = search law.kind_unknown
 
 returns-2 : tie.Need-returns-2
-returns-2 c = search law.kind-scalar
+returns-2 c = search law.kind_scalar
 
 returns-3 : tie.Need-returns-3
-returns-3 c = search law.kind-array
+returns-3 c = search law.kind_array
 
 pub right-kind-spec : {M : Type 1} → statement M
 right-kind-spec =

@@ -25,16 +25,16 @@ enum-known-right-4 : tie.Need-enum-known-right-4
 enum-known-right-4 c = search rules
 
 returns : tie.Need-returns
-returns c = search law.by-literal
+returns c = search law.by_literal
 
 returns-2 : tie.Need-returns-2
-returns-2 c = search law.by-elements
+returns-2 c = search law.by_elements
 
 returns-3 : tie.Need-returns-3
-returns-3 c = search law.by-property
+returns-3 c = search law.by_property
 
 returns-4 : tie.Need-returns-4
-returns-4 c = search law.by-pattern
+returns-4 c = search law.by_pattern
 
 pub right-of-spec : {M : Type 1} → statement M
 right-of-spec =

@@ -19,10 +19,10 @@ right-kind-requires : tie.Need-right-kind-requires
 right-kind-requires c κs = search rules
 
 returns : tie.Need-returns
-returns c = search law.property-absent
+returns c = search law.property_absent
 
 returns-2 : tie.Need-returns-2
-returns-2 c = search law.property-found
+returns-2 c = search law.property_found
 
 pub right-property-spec : {M : Type 1} → statement M
 right-property-spec =

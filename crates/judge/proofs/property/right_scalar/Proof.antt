@@ -13,10 +13,10 @@ enum-told-2 : tie.Need-enum-told-2
 enum-told-2 c = search rules
 
 returns : tie.Need-returns
-returns c = search law.right-one
+returns c = search law.right_one
 
 returns-2 : tie.Need-returns-2
-returns-2 c = search law.right-indexed
+returns-2 c = search law.right_indexed
 
 pub right-scalar-spec : {M : Type 1} → statement M
 right-scalar-spec =

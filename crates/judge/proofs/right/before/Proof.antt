@@ -28,10 +28,10 @@ returns-2 : tie.Need-returns-2
 returns-2 c = search rules
 
 returns-3 : tie.Need-returns-3
-returns-3 c = search law.before-fault
+returns-3 c = search law.before_fault
 
 returns-4 : tie.Need-returns-4
-returns-4 c = search law.before-good
+returns-4 c = search law.before_good
 
 returns-5 : tie.Need-returns-5
 returns-5 c = search rules

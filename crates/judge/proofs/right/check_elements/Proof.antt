@@ -17,7 +17,7 @@ first-element-requires : tie.Need-first-element-requires invariant-loop decrease
 first-element-requires c κs = search rules
 
 loop-holds : tie.Need-loop-init invariant-loop decreases-loop
-loop-holds c = search law.elements-begin
+loop-holds c = search law.elements_begin
 
 literal-at-requires : tie.Need-literal-at-requires invariant-loop decreases-loop
 literal-at-requires c κs = search rules
@@ -38,10 +38,10 @@ loop-less : tie.Need-loop-smaller invariant-loop decreases-loop
 loop-less c = search rules
 
 loop-again : tie.Need-loop-preserved invariant-loop decreases-loop
-loop-again c = search law.elements-next
+loop-again c = search law.elements_next
 
 returns : tie.Need-returns invariant-loop decreases-loop
-returns c = search law.elements-end
+returns c = search law.elements_end
 
 pub check-elements-spec : {M : Type 1} → statement M
 check-elements-spec =

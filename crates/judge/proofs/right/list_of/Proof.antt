@@ -13,13 +13,13 @@ enum-told-2 : tie.Need-enum-told-2
 enum-told-2 c = search rules
 
 returns : tie.Need-returns
-returns c = search law.list-unlike
+returns c = search law.list_unlike
 
 returns-2 : tie.Need-returns-2
-returns-2 c = search law.list-faulty
+returns-2 c = search law.list_faulty
 
 returns-3 : tie.Need-returns-3
-returns-3 c = search law.list-good
+returns-3 c = search law.list_good
 
 pub list-of-spec : {M : Type 1} → statement M
 list-of-spec = tie.close (tie.spec enum_told enum-known-y enum-told-2 returns returns-2 returns-3)

@@ -22,16 +22,16 @@ in-query-requires : tie.Need-in-query-requires
 in-query-requires c κs = search rules
 
 returns : tie.Need-returns
-returns c = search law.literal-unlike
+returns c = search law.literal_unlike
 
 returns-2 : tie.Need-returns-2
-returns-2 c = search law.literal-range
+returns-2 c = search law.literal_range
 
 returns-3 : tie.Need-returns-3
-returns-3 c = search law.literal-malformed
+returns-3 c = search law.literal_malformed
 
 returns-4 : tie.Need-returns-4
-returns-4 c = search law.literal-value
+returns-4 c = search law.literal_value_law
 
 pub literal-at-spec : {M : Type 1} → statement M
 literal-at-spec =

@@ -10,7 +10,7 @@ item-at-requires : tie.Need-item-at-requires
 item-at-requires c κs = search rules
 
 returns : tie.Need-returns
-returns c = search law.record-located
+returns c = search law.record_located
 
 pub located-spec : {M : Type 1} → statement M
 located-spec = tie.close (tie.spec bytes-of-requires item-at-requires returns)

@@ -13,10 +13,10 @@ enum_told : tie.Need-enum-told
 enum_told c = search rules
 
 mark-accepted-requires : tie.Need-mark-accepted-requires
-mark-accepted-requires c κs = search law.check-accepts
+mark-accepted-requires c κs = search law.check_accepts
 
 returns : tie.Need-returns
-returns c = (search law.check-refuses, search law.check-leaves, search rules)
+returns c = (search law.check_refuses, search law.check_leaves, search rules)
 
 same_length : tie.Need-same-length
 same_length c = search rules

@@ -19,19 +19,19 @@ refuse-requires-2 : tie.Need-refuse-requires-2
 refuse-requires-2 c κs = search rules
 
 returns : tie.Need-returns
-returns c = (search law.few-refuses, search law.few-leaves, search rules)
+returns c = (search law.few_refuses, search law.few_leaves, search rules)
 
 mark-instances-requires : tie.Need-mark-instances-requires
 mark-instances-requires c κs = (search rules, search law.enough)
 
 returns-2 : tie.Need-returns-2
-returns-2 c = (search law.run-refuses, search law.run-leaves, search rules)
+returns-2 c = (search law.run_refuses, search law.run_leaves, search rules)
 
 same_length : tie.Need-same-length
 same_length c = search rules
 
 returns-3 : tie.Need-returns-3
-returns-3 c = (search law.good-totals, search law.good-marks, search rules)
+returns-3 c = (search law.good_totals, search law.good_marks, search rules)
 
 pub mark-accepted-spec : {M : Type 1} → statement M
 mark-accepted-spec =

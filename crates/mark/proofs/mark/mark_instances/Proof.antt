@@ -42,37 +42,37 @@ mark-of-requires : tie.Need-mark-of-requires invariant-loop decreases-loop
 mark-of-requires c κs = search rules
 
 slice-write-marks : tie.Need-slice-write-marks invariant-loop decreases-loop
-slice-write-marks c = search law.marking-room
+slice-write-marks c = search law.marking_room
 
 count-answer-requires : tie.Need-count-answer-requires invariant-loop decreases-loop
-count-answer-requires c κs = let m = law.marking-few _ _ _ _ _ _ _ _ c.before.before.before.before.before.before.before.before.before.loop.invariant.0 c.before.before.before.before.before.before.before.before.record-at.ensures c.before.before.before.before.before.before.start.given.1 in omega arith
+count-answer-requires c κs = let m = law.marking_few _ _ _ _ _ _ _ _ c.before.before.before.before.before.before.before.before.before.loop.invariant.0 c.before.before.before.before.before.before.before.before.record-at.ensures c.before.before.before.before.before.before.start.given.1 in omega arith
 
 add-i : tie.Need-overflow-add-i invariant-loop decreases-loop
-add-i c = let m = law.marking-room _ _ _ _ _ _ _ _ c.before.before.before.before.before.before.before.before.before.before.loop.invariant.0 c.before.before.before.before.before.before.before.before.before.record-at.ensures c.before.before.before.before.before.before.before.start.given.1 in omega (arith, c.before.before.before.before.before.before.before.before.before.before.before.before.before.before.before.before.well-formed)
+add-i c = let m = law.marking_room _ _ _ _ _ _ _ _ c.before.before.before.before.before.before.before.before.before.before.loop.invariant.0 c.before.before.before.before.before.before.before.before.before.record-at.ensures c.before.before.before.before.before.before.before.start.given.1 in omega (arith, c.before.before.before.before.before.before.before.before.before.before.before.before.before.before.before.before.well-formed)
 
 loop-less : tie.Need-loop-smaller invariant-loop decreases-loop
 loop-less c = search reach.step_less
 
 loop-again : tie.Need-loop-preserved invariant-loop decreases-loop
-loop-again c = (search law.marking-next, search rules)
+loop-again c = (search law.marking_next, search rules)
 
 enum_told : tie.Need-enum-told invariant-loop decreases-loop
 enum_told c = search rules
 
 same_length : tie.Need-same-length invariant-loop decreases-loop
-same_length c = search law.marking-same
+same_length c = search law.marking_same
 
 returns : tie.Need-returns invariant-loop decreases-loop
-returns c = law.marking-broken _ _ _ _ _ _ _ _ c.before.before.before.loop.invariant.0 c.before.before.record-at.ensures c.enum_told.given.1
+returns c = law.marking_broken _ _ _ _ _ _ _ _ c.before.before.before.loop.invariant.0 c.before.before.record-at.ensures c.enum_told.given.1
 
 enum-told-2 : tie.Need-enum-told-2 invariant-loop decreases-loop
 enum-told-2 c = search rules
 
 same-length-2 : tie.Need-same-length-2 invariant-loop decreases-loop
-same-length-2 c = search law.marking-same
+same-length-2 c = search law.marking_same
 
 returns-2 : tie.Need-returns-2 invariant-loop decreases-loop
-returns-2 c = law.marking-end _ _ _ _ _ _ _ _ c.before.before.before.loop.invariant.0 c.before.before.record-at.ensures c.enum-told2.given.1
+returns-2 c = law.marking_end _ _ _ _ _ _ _ _ c.before.before.before.loop.invariant.0 c.before.before.record-at.ensures c.enum-told2.given.1
 
 pub mark-instances-spec : {M : Type 1} → statement M
 mark-instances-spec =

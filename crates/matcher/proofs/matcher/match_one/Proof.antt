@@ -28,7 +28,7 @@ returns : tie.Need-returns
 returns c = search law.one_none
 
 returns-2 : tie.Need-returns-2
-returns-2 c = law.match-one _ _ _ (law.linked _ c.before.before.before.before.before.before.before.before.read-pattern.ensures c.before.before.before.before.before.whole.given.1) _ _ c.before.before.hits-of.ensures c.before.before.before.start.ensures c.before.next-set.ensures
+returns-2 c = law.match_one _ _ _ (law.linked _ c.before.before.before.before.before.before.before.before.read-pattern.ensures c.before.before.before.before.before.whole.given.1) _ _ c.before.before.hits-of.ensures c.before.before.before.start.ensures c.before.next-set.ensures
 
 pub match-one-spec : {M : Type 1} → statement M
 match-one-spec =

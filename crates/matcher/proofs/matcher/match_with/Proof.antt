@@ -18,7 +18,7 @@ start-requires : tie.Need-start-requires invariant-loop decreases-loop
 start-requires c κs = search rules
 
 loop-holds : tie.Need-loop-init invariant-loop decreases-loop
-loop-holds c = search law.matching-start
+loop-holds c = search law.matching_start
 
 sequence-at-requires : tie.Need-sequence-at-requires invariant-loop decreases-loop
 sequence-at-requires c κs = search rules
@@ -33,7 +33,7 @@ same-length-2 : tie.Need-same-length-2 invariant-loop decreases-loop
 same-length-2 c = search rules
 
 returns : tie.Need-returns invariant-loop decreases-loop
-returns c = law.matched-stop c.before.before.before.before.loop.invariant c.before.before.sequence-at.ensures c.before.if1.true c.accepts.ensures
+returns c = law.matched_stop c.before.before.before.before.loop.invariant c.before.before.sequence-at.ensures c.before.if1.true c.accepts.ensures
 
 hit-at-requires : tie.Need-hit-at-requires invariant-loop decreases-loop
 hit-at-requires c κs = (c.before.before.before.loop-test.true, c.before.before.sequence-at.ensures, c.before.before.before.before.loop.invariant.memory)
@@ -45,7 +45,7 @@ count-from-requires : tie.Need-count-from-requires invariant-loop decreases-loop
 count-from-requires c κs = search rules
 
 add-characters : tie.Need-overflow-add-characters invariant-loop decreases-loop
-add-characters c = omega (arith, law.matching-fewer c.before.before.before.before.before.before.before.before.before.before.loop.invariant c.count-from.ensures)
+add-characters c = omega (arith, law.matching_fewer c.before.before.before.before.before.before.before.before.before.before.loop.invariant c.count-from.ensures)
 
 same-length-3 : tie.Need-same-length-3 invariant-loop decreases-loop
 same-length-3 c = omega (arith, c.before.before.before.before.before.hit-at.ensures.1.all, c.before.before.before.before.before.before.before.before.before.before.before.before.before.before.before.before.before.requires.1.all)
@@ -54,7 +54,7 @@ same-length-4 : tie.Need-same-length-4 invariant-loop decreases-loop
 same-length-4 c = search rules
 
 returns-2 : tie.Need-returns-2 invariant-loop decreases-loop
-returns-2 c = law.matched-dead c.before.before.before.before.before.before.before.before.before.before.loop.invariant _ _ c.before.before.before.before.before.before.before.before.sequence-at.ensures c.before.before.before.before.before.before.before.if1.false c.before.before.before.before.before.hit-at.ensures c.before.before.next-set.ensures c.before.if2.true c.count-from.ensures
+returns-2 c = law.matched_dead c.before.before.before.before.before.before.before.before.before.before.loop.invariant _ _ c.before.before.before.before.before.before.before.before.sequence-at.ensures c.before.before.before.before.before.before.before.if1.false c.before.before.before.before.before.hit-at.ensures c.before.before.next-set.ensures c.before.if2.true c.count-from.ensures
 
 add_at : tie.Need-overflow-add-at invariant-loop decreases-loop
 add_at c = omega (arith, sequence_fits c.before.before.before.before.before.before.before.before.before.before.before.before.before.before.before.before.args.text.now c.before.before.before.before.before.before.before.before.before.loop.at, c.before.before.before.before.before.before.before.sequence-at.ensures)
@@ -69,7 +69,7 @@ loop-less : tie.Need-loop-smaller invariant-loop decreases-loop
 loop-less c = omega (arith, sequence_fits c.before.before.before.before.before.before.before.before.before.before.before.before.before.before.before.before.before.before.before.before.args.text.now c.before.before.before.before.before.before.before.before.before.before.before.before.before.loop.at, c.before.before.before.before.before.before.before.before.before.before.before.sequence-at.ensures, c.before.before.before.before.before.before.before.before.before.before.if1.false)
 
 loop-again : tie.Need-loop-preserved invariant-loop decreases-loop
-loop-again c = law.matching-next c.before.before.before.before.before.before.before.before.before.before.before.before.before.loop.invariant _ _ c.before.before.before.before.before.before.before.before.before.before.before.sequence-at.ensures c.before.before.before.before.before.before.before.before.before.before.if1.false c.before.before.before.before.before.before.before.before.hit-at.ensures c.before.before.before.before.before.next-set.ensures c.before.before.before.before.if2.false c.before.before.step.ensures
+loop-again c = law.matching_next c.before.before.before.before.before.before.before.before.before.before.before.before.before.loop.invariant _ _ c.before.before.before.before.before.before.before.before.before.before.before.sequence-at.ensures c.before.before.before.before.before.before.before.before.before.before.if1.false c.before.before.before.before.before.before.before.before.hit-at.ensures c.before.before.before.before.before.next-set.ensures c.before.before.before.before.if2.false c.before.before.step.ensures
 
 accepts-requires-2 : tie.Need-accepts-requires-2 invariant-loop decreases-loop
 accepts-requires-2 c κs = search rules
@@ -81,7 +81,7 @@ same-length-6 : tie.Need-same-length-6 invariant-loop decreases-loop
 same-length-6 c = search rules
 
 returns-3 : tie.Need-returns-3 invariant-loop decreases-loop
-returns-3 c = law.matched-end c.before.before.loop.invariant c.before.loop-test.false c.accepts2.ensures
+returns-3 c = law.matched_end c.before.before.loop.invariant c.before.loop-test.false c.accepts2.ensures
 
 pub match-with-spec : {M : Type 1} → statement M
 match-with-spec =

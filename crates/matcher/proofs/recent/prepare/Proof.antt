@@ -16,7 +16,7 @@ same_length : tie.Need-same-length
 same_length c = search rules
 
 returns-2 : tie.Need-returns-2
-returns-2 c = law.with-simple _ c.before.before.before.before.before.requires.1 _ c.before.simple-in.ensures
+returns-2 c = law.with_simple _ c.before.before.before.before.before.requires.1 _ c.before.simple-in.ensures
 
 closed-in-requires : tie.Need-closed-in-requires
 closed-in-requires c κs = search rules
@@ -28,7 +28,7 @@ same-length-2 : tie.Need-same-length-2
 same-length-2 c = search rules
 
 returns-3 : tie.Need-returns-3
-returns-3 c = law.with-closed _ (law.with-simple _ c.before.before.before.before.before.before.requires.1 _ c.before.before.simple-in.ensures) _ c.closed_in.ensures
+returns-3 c = law.with_closed _ (law.with_simple _ c.before.before.before.before.before.before.requires.1 _ c.before.before.simple-in.ensures) _ c.closed_in.ensures
 
 pub prepare-spec : {M : Type 1} → statement M
 prepare-spec =

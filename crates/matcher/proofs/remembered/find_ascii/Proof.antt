@@ -16,7 +16,7 @@ same_length : tie.Need-same-length
 same_length c = search rules
 
 returns : tie.Need-returns
-returns c = (law.ascii-known _ _ c.before.before.before.requires.1 c.before.before.before.requires.0 _ c.hits-of.ensures, law.ascii-stored _ _ c.before.before.before.requires.1 c.before.before.before.requires.0 _ c.hits-of.ensures)
+returns c = (law.ascii_known _ _ c.before.before.before.requires.1 c.before.before.before.requires.0 _ c.hits-of.ensures, law.ascii_stored _ _ c.before.before.before.requires.1 c.before.before.before.requires.0 _ c.hits-of.ensures)
 
 pub find-ascii-spec : {M : Type 1} → statement M
 find-ascii-spec =

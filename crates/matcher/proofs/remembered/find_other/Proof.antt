@@ -40,7 +40,7 @@ same_length : tie.Need-same-length
 same_length c = search rules
 
 returns : tie.Need-returns
-returns c = (c.before.hits-of.ensures, law.other-stored _ _ c.before.before.before.before.requires _ c.place_of.ensures _ c.before.hits-of.ensures)
+returns c = (c.before.hits-of.ensures, law.other_stored _ _ c.before.before.before.before.requires _ c.place_of.ensures _ c.before.hits-of.ensures)
 
 pub find-other-spec : {M : Type 1} → statement M
 find-other-spec =

@@ -10,7 +10,7 @@ slice-read-known : tie.Need-slice-read-known
 slice-read-known c = search rules
 
 returns : tie.Need-returns
-returns c = (law.ascii-found _ _ c.before.before.before.before.requires.1 c.before.before.before.before.requires.0 c.if1.true, c.before.before.before.before.requires.1)
+returns c = (law.ascii_found _ _ c.before.before.before.before.requires.1 c.before.before.before.before.requires.0 c.if1.true, c.before.before.before.before.requires.1)
 
 find-ascii-requires : tie.Need-find-ascii-requires
 find-ascii-requires c κs = search rules

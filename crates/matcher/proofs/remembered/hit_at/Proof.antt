@@ -13,7 +13,7 @@ same_length : tie.Need-same-length
 same_length c = search rules
 
 returns : tie.Need-returns
-returns c = law.hit-of-ascii _ _ _ _ _ c.before.before.before.before.before.before.before.before.before.requires.0 c.before.before.before.before.if1.true c.before.before.hit-ascii.ensures
+returns c = law.hit_of_ascii _ _ _ _ _ c.before.before.before.before.before.before.before.before.before.requires.0 c.before.before.before.before.if1.true c.before.before.hit-ascii.ensures
 
 piece-requires : tie.Need-piece-requires
 piece-requires c κs = search rules
@@ -28,7 +28,7 @@ same-length-2 : tie.Need-same-length-2
 same-length-2 c = search rules
 
 returns-2 : tie.Need-returns-2
-returns-2 c = law.hit-of-other _ _ _ _ _ c.before.before.before.before.before.before.before.before.before.before.before.requires.1 c.before.before.before.before.before.piece.ensures c.before.before.before.before.scalar-of.ensures c.before.before.hit_other.ensures
+returns-2 c = law.hit_of_other _ _ _ _ _ c.before.before.before.before.before.before.before.before.before.before.before.requires.1 c.before.before.before.before.before.piece.ensures c.before.before.before.before.scalar-of.ensures c.before.before.hit_other.ensures
 
 pub hit-at-spec : {M : Type 1} → statement M
 hit-at-spec =

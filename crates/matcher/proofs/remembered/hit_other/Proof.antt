@@ -31,7 +31,7 @@ slice-read-result : tie.Need-slice-read-result
 slice-read-result c = search rules
 
 returns : tie.Need-returns
-returns c = (law.other-found _ _ c.before.before.before.before.before.before.requires _ c.before.before.before.place_of.ensures c.before.if1.true, c.before.before.before.before.before.before.requires)
+returns c = (law.other_found _ _ c.before.before.before.before.before.before.requires _ c.before.before.before.place_of.ensures c.before.if1.true, c.before.before.before.before.before.before.requires)
 
 find-other-requires : tie.Need-find-other-requires
 find-other-requires c κs = search rules

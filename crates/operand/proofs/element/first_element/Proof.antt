@@ -10,7 +10,7 @@ token-after-requires : tie.Need-token-after-requires
 token-after-requires c κs = search rules
 
 returns : tie.Need-returns
-returns c = search law.element-first
+returns c = search law.element_first
 
 pub first-element-spec : {M : Type 1} → statement M
 first-element-spec = tie.close (tie.spec token-at-requires token-after-requires returns)

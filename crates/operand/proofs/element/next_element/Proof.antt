@@ -10,7 +10,7 @@ token-after-requires-2 : tie.Need-token-after-requires-2
 token-after-requires-2 c κs = search rules
 
 returns : tie.Need-returns
-returns c = search law.element-next
+returns c = search law.element_next
 
 pub next-element-spec : {M : Type 1} → statement M
 next-element-spec = tie.close (tie.spec token-after-requires token-after-requires-2 returns)

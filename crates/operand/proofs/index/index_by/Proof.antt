@@ -40,7 +40,7 @@ enum-told-8 : tie.Need-enum-told-8
 enum-told-8 c = search rules
 
 returns : tie.Need-returns
-returns c = search law.index-positive
+returns c = search law.index_positive
 
 returns-2 : tie.Need-returns-2
 returns-2 c = search rules

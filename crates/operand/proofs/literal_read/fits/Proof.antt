@@ -50,19 +50,19 @@ enum-told-7 : tie.Need-enum-told-7
 enum-told-7 c = search rules
 
 returns : tie.Need-returns
-returns c = search law.fits-truth
+returns c = search law.fits_truth
 
 returns-2 : tie.Need-returns-2
-returns-2 c = search law.fits-integer
+returns-2 c = search law.fits_integer
 
 returns-3 : tie.Need-returns-3
-returns-3 c = search law.fits-hex
+returns-3 c = search law.fits_hex
 
 returns-4 : tie.Need-returns-4
-returns-4 c = search law.fits-real
+returns-4 c = search law.fits_real
 
 returns-5 : tie.Need-returns-5
-returns-5 c = search law.fits-text
+returns-5 c = search law.fits_text
 
 returns-6 : tie.Need-returns-6
 unfolding fits

@@ -61,7 +61,7 @@ unfolding no_datetime item_value
 returns-7 c = search rules
 
 returns-8 : tie.Need-returns-8
-returns-8 c = search law.units-said
+returns-8 c = search law.units_said
 
 pub is-no-datetime-spec : {M : Type 1} → statement M
 is-no-datetime-spec =

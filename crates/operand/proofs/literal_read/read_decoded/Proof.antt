@@ -19,13 +19,13 @@ enum-told-2 : tie.Need-enum-told-2
 enum-told-2 c = search rules
 
 returns : tie.Need-returns
-returns c = search law.decoded-is
+returns c = search law.decoded_is
 
 returns-2 : tie.Need-returns-2
-returns-2 c = search law.decoded-out
+returns-2 c = search law.decoded_out
 
 returns-3 : tie.Need-returns-3
-returns-3 c = search law.decoded-none
+returns-3 c = search law.decoded_none
 
 pub read-decoded-spec : {M : Type 1} → statement M
 read-decoded-spec =

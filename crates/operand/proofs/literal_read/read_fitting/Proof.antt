@@ -22,10 +22,10 @@ read-decoded-requires : tie.Need-read-decoded-requires
 read-decoded-requires c κs = search rules
 
 returns : tie.Need-returns
-returns c = search law.fitting-read
+returns c = search law.fitting_read
 
 returns-2 : tie.Need-returns-2
-returns-2 c = search law.fitting-not
+returns-2 c = search law.fitting_not
 
 pub read-fitting-spec : {M : Type 1} → statement M
 read-fitting-spec =

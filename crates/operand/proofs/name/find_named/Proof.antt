@@ -10,7 +10,7 @@ find-property-requires : tie.Need-find-property-requires
 find-property-requires c κs = search rules
 
 returns : tie.Need-returns
-returns c = search law.named-alone
+returns c = search law.named_alone
 
 spanned-requires-2 : tie.Need-spanned-requires-2
 spanned-requires-2 c κs = search rules
@@ -25,10 +25,10 @@ find-property-requires-2 : tie.Need-find-property-requires-2
 find-property-requires-2 c κs = search rules
 
 returns-2 : tie.Need-returns-2
-returns-2 c = search law.named-classed
+returns-2 c = search law.named_classed
 
 returns-3 : tie.Need-returns-3
-returns-3 c = search law.named-not
+returns-3 c = search law.named_not
 
 pub find-named-spec : {M : Type 1} → statement M
 find-named-spec =

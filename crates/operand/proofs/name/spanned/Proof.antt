@@ -7,7 +7,7 @@ piece-requires : tie.Need-piece-requires
 piece-requires c κs = search rules
 
 returns : tie.Need-returns
-returns c = search law.name-none
+returns c = search law.name_none
 
 piece-requires-2 : tie.Need-piece-requires-2
 piece-requires-2 c κs = search rules

@@ -16,10 +16,10 @@ enum-known-n : tie.Need-enum-known-n
 enum-known-n c = search rules
 
 array-share-prefix-buffer : tie.Need-array-share-prefix-buffer
-array-share-prefix-buffer c = search law.count-within
+array-share-prefix-buffer c = search law.count_within
 
 slice-aggregate-check-pattern : tie.Need-slice-aggregate-check-pattern
-slice-aggregate-check-pattern c = search law.count-taken
+slice-aggregate-check-pattern c = search law.count_taken
 
 check-pattern-requires : tie.Need-check-pattern-requires
 check-pattern-requires c κs = search rules
@@ -31,7 +31,7 @@ returns : tie.Need-returns
 returns c = search law.is_held
 
 returns-2 : tie.Need-returns-2
-returns-2 c = search law.is-over
+returns-2 c = search law.is_over
 
 pub is-pattern-spec : {M : Type 1} → statement M
 is-pattern-spec =

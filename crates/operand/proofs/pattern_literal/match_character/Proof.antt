@@ -16,10 +16,10 @@ enum-known-n : tie.Need-enum-known-n
 enum-known-n c = search rules
 
 array-share-prefix-buffer : tie.Need-array-share-prefix-buffer
-array-share-prefix-buffer c = search law.count-within
+array-share-prefix-buffer c = search law.count_within
 
 slice-aggregate-match-one : tie.Need-slice-aggregate-match-one
-slice-aggregate-match-one c = search law.count-taken
+slice-aggregate-match-one c = search law.count_taken
 
 match-one-requires : tie.Need-match-one-requires
 match-one-requires c κs = search rules
@@ -28,10 +28,10 @@ enum_told : tie.Need-enum-told
 enum_told c = search rules
 
 returns : tie.Need-returns
-returns c = search law.one-held
+returns c = search law.one_held
 
 returns-2 : tie.Need-returns-2
-returns-2 c = search law.one-over
+returns-2 c = search law.one_over
 
 pub match-character-spec : {M : Type 1} → statement M
 match-character-spec =

@@ -16,10 +16,10 @@ enum-known-n : tie.Need-enum-known-n
 enum-known-n c = search rules
 
 array-share-prefix-buffer : tie.Need-array-share-prefix-buffer
-array-share-prefix-buffer c = search law.count-within
+array-share-prefix-buffer c = search law.count_within
 
 slice-aggregate-match-text : tie.Need-slice-aggregate-match-text
-slice-aggregate-match-text c = search law.count-taken
+slice-aggregate-match-text c = search law.count_taken
 
 match-text-requires : tie.Need-match-text-requires
 match-text-requires c κs = search rules
@@ -34,10 +34,10 @@ match-text-requires-2 : tie.Need-match-text-requires-2
 match-text-requires-2 c κs = search rules
 
 returns : tie.Need-returns
-returns c = search law.text-held
+returns c = search law.text_held
 
 returns-2 : tie.Need-returns-2
-returns-2 c = search law.text-over
+returns-2 c = search law.text_over
 
 pub match-utf8-spec : {M : Type 1} → statement M
 match-utf8-spec =

@@ -13,7 +13,7 @@ abbrev decreases-loop : tie.decreases-loop
 decreases-loop p c at₀ k₀ found₀ at k found = length p - at
 
 loop-holds : tie.Need-loop-init invariant-loop decreases-loop
-loop-holds c = search law.scanning-start
+loop-holds c = search law.scanning_start
 
 mul-is-between : tie.Need-overflow-mul-is-between invariant-loop decreases-loop
 mul-is-between c = search rules
@@ -31,10 +31,10 @@ loop-less : tie.Need-loop-smaller invariant-loop decreases-loop
 loop-less c = search rules
 
 loop-again : tie.Need-loop-preserved invariant-loop decreases-loop
-loop-again c = search law.scanning-passed
+loop-again c = search law.scanning_passed
 
 returns : tie.Need-returns invariant-loop decreases-loop
-returns c = search law.scanned-full
+returns c = search law.scanned_full
 
 symbol-at-requires : tie.Need-symbol-at-requires invariant-loop decreases-loop
 symbol-at-requires c κs = search rules
@@ -43,7 +43,7 @@ enum_told : tie.Need-enum-told invariant-loop decreases-loop
 enum_told c = search rules
 
 returns-2 : tie.Need-returns-2 invariant-loop decreases-loop
-returns-2 c = search law.scanned-bad
+returns-2 c = search law.scanned_bad
 
 enum-known-e : tie.Need-enum-known-e invariant-loop decreases-loop
 enum-known-e c = search rules
@@ -58,13 +58,13 @@ add-k : tie.Need-overflow-add-k invariant-loop decreases-loop
 add-k c = search rules
 
 loop-less-2 : tie.Need-loop-smaller-2 invariant-loop decreases-loop
-loop-less-2 c = search law.symbol-further
+loop-less-2 c = search law.symbol_further
 
 loop-again-2 : tie.Need-loop-preserved-2 invariant-loop decreases-loop
-loop-again-2 c = search law.scanning-next
+loop-again-2 c = search law.scanning_next
 
 returns-3 : tie.Need-returns-3 invariant-loop decreases-loop
-returns-3 c = search law.scanned-end
+returns-3 c = search law.scanned_end
 
 pub hits-of-spec : {M : Type 1} → statement M
 hits-of-spec =

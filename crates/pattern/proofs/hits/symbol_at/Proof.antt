@@ -14,7 +14,7 @@ add-t9 : tie.Need-overflow-add-t9
 add-t9 c = search rules
 
 returns : tie.Need-returns
-returns c = search symbol-law.symbol-dot
+returns c = search symbol-law.symbol_dot
 
 is-special-requires : tie.Need-is-special-requires
 is-special-requires c κs = search rules
@@ -29,7 +29,7 @@ add-t5 : tie.Need-overflow-add-t5
 add-t5 c = search rules
 
 returns-3 : tie.Need-returns-3
-returns-3 c = search law.symbol-ordinary
+returns-3 c = search law.symbol_ordinary
 
 pub symbol-at-spec : {M : Type 1} → statement M
 symbol-at-spec =

@@ -36,7 +36,7 @@ loop-less : tie.Need-loop-smaller invariant-loop decreases-loop
 loop-less c = search rules
 
 loop-again : tie.Need-loop-preserved invariant-loop decreases-loop
-loop-again c = (law.closed-more _ _ c.before.before.before.before.loop.invariant.0 c.before.before.before.loop-test.true c.before.gather.ensures c.keep-if.ensures, search rules)
+loop-again c = (law.closed_more _ _ c.before.before.before.before.loop.invariant.0 c.before.before.before.loop-test.true c.before.gather.ensures c.keep-if.ensures, search rules)
 
 returns : tie.Need-returns invariant-loop decreases-loop
 returns c = search rules

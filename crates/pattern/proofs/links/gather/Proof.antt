@@ -16,7 +16,7 @@ outside-requires : tie.Need-outside-requires invariant-loop decreases-loop
 outside-requires c κs = search rules
 
 loop-holds : tie.Need-loop-init invariant-loop decreases-loop
-loop-holds c = law.gathering-start _ _ c.before.before.requires.1 c.outside.ensures refl
+loop-holds c = law.gathering_start _ _ c.before.before.requires.1 c.outside.ensures refl
 
 least-in-requires : tie.Need-least-in-requires invariant-loop decreases-loop
 least-in-requires c κs = search rules
@@ -40,10 +40,10 @@ loop-less : tie.Need-loop-smaller invariant-loop decreases-loop
 loop-less c = omega (arith, c.before.before.without.ensures.fewer, c.outside2.ensures.fewer)
 
 loop-again : tie.Need-loop-preserved invariant-loop decreases-loop
-loop-again c = law.gathering-next _ _ c.before.before.before.before.before.before.loop.invariant c.before.before.before.before.least-in.ensures c.before.before.without.ensures c.before.covered.ensures c.outside2.ensures c.before.before.before.before.before.before.before.before.before.requires.2
+loop-again c = law.gathering_next _ _ c.before.before.before.before.before.before.loop.invariant c.before.before.before.before.least-in.ensures c.before.before.without.ensures c.before.covered.ensures c.outside2.ensures c.before.before.before.before.before.before.before.before.before.requires.2
 
 returns : tie.Need-returns invariant-loop decreases-loop
-returns c = search law.gathering-end
+returns c = search law.gathering_end
 
 pub gather-spec : {M : Type 1} → statement M
 gather-spec =

@@ -11,7 +11,7 @@ abbrev decreases-loop : tie.decreases-loop
 decreases-loop links₀ last first left₀ links left = left
 
 loop-holds : tie.Need-loop-init invariant-loop decreases-loop
-loop-holds c = search law.linking-start
+loop-holds c = search law.linking_start
 
 least-in-requires : tie.Need-least-in-requires invariant-loop decreases-loop
 least-in-requires c κs = search rules
@@ -35,13 +35,13 @@ loop-less : tie.Need-loop-smaller invariant-loop decreases-loop
 loop-less c = c.without.ensures.fewer
 
 loop-again : tie.Need-loop-preserved invariant-loop decreases-loop
-loop-again c = search law.linking-next
+loop-again c = search law.linking_next
 
 same_length : tie.Need-same-length invariant-loop decreases-loop
 same_length c = search rules
 
 returns : tie.Need-returns invariant-loop decreases-loop
-returns c = search law.linking-end
+returns c = search law.linking_end
 
 pub link-spec : {M : Type 1} → statement M
 link-spec =

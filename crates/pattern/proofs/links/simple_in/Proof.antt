@@ -12,7 +12,7 @@ abbrev decreases-loop : tie.decreases-loop
 decreases-loop links k₀ found₀ k found = 63 - k
 
 loop-holds : tie.Need-loop-init invariant-loop decreases-loop
-loop-holds c = (law.simple-none _, search rules)
+loop-holds c = (law.simple_none _, search rules)
 
 mul-keep-if : tie.Need-overflow-mul-keep-if invariant-loop decreases-loop
 mul-keep-if c = search rules
@@ -36,7 +36,7 @@ loop-less : tie.Need-loop-smaller invariant-loop decreases-loop
 loop-less c = search rules
 
 loop-again : tie.Need-loop-preserved invariant-loop decreases-loop
-loop-again c = (search law.simple-more, search rules)
+loop-again c = (search law.simple_more, search rules)
 
 returns : tie.Need-returns invariant-loop decreases-loop
 returns c = search rules

@@ -110,7 +110,7 @@ read-alternatives-loop-holds : (t : ℕ) → read-alternatives-lts.Need-loop-ini
     read-alternatives.Post
     read-alternatives-Inv-loop
     read-alternatives-μ-loop
-read-alternatives-loop-holds t c = search loops.alternating-start
+read-alternatives-loop-holds t c = search loops.alternating_start
 
 read-alternatives-read-sequence-requires :
     (t : ℕ) → read-alternatives-lts.Need-read-sequence-requires (
@@ -159,7 +159,7 @@ read-alternatives-same-length : (t : ℕ) → read-alternatives-lts.Need-same-le
     read-alternatives.Post
     read-alternatives-Inv-loop
     read-alternatives-μ-loop
-read-alternatives-same-length t c = search (law.sequence-all, rules)
+read-alternatives-same-length t c = search (law.sequence_all, rules)
 
 read-alternatives-returns : (t : ℕ) → read-alternatives-lts.Need-returns (
   make-none-reads.Asked,
@@ -175,7 +175,7 @@ read-alternatives-returns : (t : ℕ) → read-alternatives-lts.Need-returns (
     read-alternatives.Post
     read-alternatives-Inv-loop
     read-alternatives-μ-loop
-read-alternatives-returns t c = search loops.alternating-bad
+read-alternatives-returns t c = search loops.alternating_bad
 
 read-alternatives-enum-known-e : (t : ℕ) → read-alternatives-lts.Need-enum-known-e (
   make-none-reads.Asked,
@@ -240,7 +240,7 @@ read-alternatives-same-length-2 : (t : ℕ) → read-alternatives-lts.Need-same-
     read-alternatives.Post
     read-alternatives-Inv-loop
     read-alternatives-μ-loop
-read-alternatives-same-length-2 t c = search (law.sequence-all, rules)
+read-alternatives-same-length-2 t c = search (law.sequence_all, rules)
 
 read-alternatives-returns-2 : (t : ℕ) → read-alternatives-lts.Need-returns-2 (
   make-none-reads.Asked,
@@ -256,7 +256,7 @@ read-alternatives-returns-2 : (t : ℕ) → read-alternatives-lts.Need-returns-2
     read-alternatives.Post
     read-alternatives-Inv-loop
     read-alternatives-μ-loop
-read-alternatives-returns-2 t c = search loops.alternating-end
+read-alternatives-returns-2 t c = search loops.alternating_end
 
 read-alternatives-add-i : (t : ℕ) → read-alternatives-lts.Need-overflow-add-i (
   make-none-reads.Asked,
@@ -288,7 +288,7 @@ read-alternatives-loop-less : (t : ℕ) → read-alternatives-lts.Need-loop-smal
     read-alternatives.Post
     read-alternatives-Inv-loop
     read-alternatives-μ-loop
-read-alternatives-loop-less t c = let h = c.before.is_at.ensures.1 (not-false _ c.if1.false) in let w = law.sequence-further _ _ _ _ c.before.before.before.before.before.before.before.before.read-sequence.ensures c.before.before.before.before.e.given.1 in omega arith
+read-alternatives-loop-less t c = let h = c.before.is_at.ensures.1 (not-false _ c.if1.false) in let w = law.sequence_further _ _ _ _ c.before.before.before.before.before.before.before.before.read-sequence.ensures c.before.before.before.before.e.given.1 in omega arith
 
 read-alternatives-loop-again : (t : ℕ) → read-alternatives-lts.Need-loop-preserved (
   make-none-reads.Asked,
@@ -304,7 +304,7 @@ read-alternatives-loop-again : (t : ℕ) → read-alternatives-lts.Need-loop-pre
     read-alternatives.Post
     read-alternatives-Inv-loop
     read-alternatives-μ-loop
-read-alternatives-loop-again t c = search loops.alternating-next
+read-alternatives-loop-again t c = search loops.alternating_next
 
 read-item-is-at-requires : (t : ℕ) → read-item-lts.Need-is-at-requires (
   is-at-reads.Asked,
@@ -352,7 +352,7 @@ read-item-returns : (t : ℕ) → read-item-lts.Need-returns (
   read-repeat-reads.Asked,
   read-repeat-reads.Learnt,
 ) (read-item-at t) read-item.Post
-read-item-returns t c = search law.item-symbol
+read-item-returns t c = search law.item_symbol
 
 read-item-returns-2 : (t : ℕ) → read-item-lts.Need-returns-2 (
   is-at-reads.Asked,
@@ -364,7 +364,7 @@ read-item-returns-2 : (t : ℕ) → read-item-lts.Need-returns-2 (
   read-repeat-reads.Asked,
   read-repeat-reads.Learnt,
 ) (read-item-at t) read-item.Post
-read-item-returns-2 t c = search law.item-deep
+read-item-returns-2 t c = search law.item_deep
 
 read-item-add-read-alternatives : (t : ℕ) → read-item-lts.Need-overflow-add-read-alternatives (
   is-at-reads.Asked,
@@ -460,7 +460,7 @@ read-item-returns-3 : (t : ℕ) → read-item-lts.Need-returns-3 (
   read-repeat-reads.Asked,
   read-repeat-reads.Learnt,
 ) (read-item-at t) read-item.Post
-read-item-returns-3 t c = search law.group-open
+read-item-returns-3 t c = search law.group_open
 
 read-item-add-read-repeat : (t : ℕ) → read-item-lts.Need-overflow-add-read-repeat (
   is-at-reads.Asked,
@@ -508,7 +508,7 @@ read-item-returns-4 : (t : ℕ) → read-item-lts.Need-returns-4 (
   read-repeat-reads.Asked,
   read-repeat-reads.Learnt,
 ) (read-item-at t) read-item.Post
-read-item-returns-4 t c = search law.group-bad
+read-item-returns-4 t c = search law.group_bad
 
 read-item-same-length-4 : (t : ℕ) → read-item-lts.Need-same-length-4 (
   is-at-reads.Asked,
@@ -532,7 +532,7 @@ read-item-returns-5 : (t : ℕ) → read-item-lts.Need-returns-5 (
   read-repeat-reads.Asked,
   read-repeat-reads.Learnt,
 ) (read-item-at t) read-item.Post
-read-item-returns-5 t c = search law.group-closed
+read-item-returns-5 t c = search law.group_closed
 
 abbrev read-sequence-Inv-loop : read-sequence-lts.invariant-loop
 read-sequence-Inv-loop s at depth k links₀ i₀ n₀ whole₀ links i n whole = Sequencing s at depth k links₀ i n whole links
@@ -566,7 +566,7 @@ read-sequence-loop-holds : (t : ℕ) → read-sequence-lts.Need-loop-init (
   make-sequence-reads.Asked,
   make-sequence-reads.Learnt,
 ) (read-sequence-at t) read-sequence.Post read-sequence-Inv-loop read-sequence-μ-loop
-read-sequence-loop-holds t c = search loops.sequencing-start
+read-sequence-loop-holds t c = search loops.sequencing_start
 
 read-sequence-ends-at-requires : (t : ℕ) → read-sequence-lts.Need-ends-at-requires (
   make-empty-reads.Asked,
@@ -636,7 +636,7 @@ read-sequence-returns : (t : ℕ) → read-sequence-lts.Need-returns (
   make-sequence-reads.Asked,
   make-sequence-reads.Learnt,
 ) (read-sequence-at t) read-sequence.Post read-sequence-Inv-loop read-sequence-μ-loop
-read-sequence-returns t c = search loops.sequencing-bad
+read-sequence-returns t c = search loops.sequencing_bad
 
 read-sequence-enum-known-e : (t : ℕ) → read-sequence-lts.Need-enum-known-e (
   make-empty-reads.Asked,
@@ -692,7 +692,7 @@ read-sequence-loop-less : (t : ℕ) → read-sequence-lts.Need-loop-smaller (
   make-sequence-reads.Asked,
   make-sequence-reads.Learnt,
 ) (read-sequence-at t) read-sequence.Post read-sequence-Inv-loop read-sequence-μ-loop
-read-sequence-loop-less t c = law.item-further _ _ _ _ c.before.before.before.before.before.before.before.before.before.before.read-item.ensures c.before.before.before.before.before.before.e.given.1
+read-sequence-loop-less t c = law.item_further _ _ _ _ c.before.before.before.before.before.before.before.before.before.before.read-item.ensures c.before.before.before.before.before.before.e.given.1
 
 read-sequence-loop-again : (t : ℕ) → read-sequence-lts.Need-loop-preserved (
   make-empty-reads.Asked,
@@ -706,7 +706,7 @@ read-sequence-loop-again : (t : ℕ) → read-sequence-lts.Need-loop-preserved (
   make-sequence-reads.Asked,
   make-sequence-reads.Learnt,
 ) (read-sequence-at t) read-sequence.Post read-sequence-Inv-loop read-sequence-μ-loop
-read-sequence-loop-again t c = search loops.sequencing-next
+read-sequence-loop-again t c = search loops.sequencing_next
 
 read-sequence-same-length-2 : (t : ℕ) → read-sequence-lts.Need-same-length-2 (
   make-empty-reads.Asked,
@@ -734,7 +734,7 @@ read-sequence-returns-2 : (t : ℕ) → read-sequence-lts.Need-returns-2 (
   make-sequence-reads.Asked,
   make-sequence-reads.Learnt,
 ) (read-sequence-at t) read-sequence.Post read-sequence-Inv-loop read-sequence-μ-loop
-read-sequence-returns-2 t c = search loops.sequencing-end
+read-sequence-returns-2 t c = search loops.sequencing_end
 
 pub +read-alternatives-read-item-read-sequence-spec : {M : Type 1} → statement M
 +read-alternatives-read-item-read-sequence-spec =

@@ -17,10 +17,10 @@ enum-told-2 : tie.Need-enum-told-2
 enum-told-2 c = search rules
 
 returns : tie.Need-returns
-returns c = rw (law.no-pattern _ _ _ _ c.before.before.before.read-pattern.ensures c.enum_told.given.1)
+returns c = rw (law.no_pattern _ _ _ _ c.before.before.before.read-pattern.ensures c.enum_told.given.1)
 
 returns-2 : tie.Need-returns-2
-returns-2 c = rw (law.is-pattern _ _ _ _ _ c.before.before.before.read-pattern.ensures c.enum-told2.given.1).reads
+returns-2 c = rw (law.is_pattern _ _ _ _ _ c.before.before.before.read-pattern.ensures c.enum-told2.given.1).reads
 
 pub check-pattern-spec : {M : Type 1} → statement M
 check-pattern-spec =

@@ -20,7 +20,7 @@ same_length : tie.Need-same-length
 same_length c = search rules
 
 returns : tie.Need-returns
-returns c = search law.repeat-star
+returns c = search law.repeat_star
 
 is-at-requires-2 : tie.Need-is-at-requires-2
 is-at-requires-2 c κs = search rules
@@ -35,7 +35,7 @@ same-length-2 : tie.Need-same-length-2
 same-length-2 c = search rules
 
 returns-2 : tie.Need-returns-2
-returns-2 c = search law.repeat-plus
+returns-2 c = search law.repeat_plus
 
 is-at-requires-3 : tie.Need-is-at-requires-3
 is-at-requires-3 c κs = search rules
@@ -47,10 +47,10 @@ make-optional-requires-2 : tie.Need-make-optional-requires-2
 make-optional-requires-2 c κs = search rules
 
 returns-3 : tie.Need-returns-3
-returns-3 c = search law.repeat-optional
+returns-3 c = search law.repeat_optional
 
 returns-4 : tie.Need-returns-4
-returns-4 c = search law.repeat-none
+returns-4 c = search law.repeat_none
 
 pub read-repeat-spec : {M : Type 1} → statement M
 read-repeat-spec =

@@ -4,7 +4,7 @@ use Rattle.pattern.proofs.reader.read_symbol_item.Statement.{statement}
 use Rattle.pattern.proofs.reader.read_symbol_item.Tie as tie
 
 returns : tie.Need-returns
-returns c = search law.symbol-full
+returns c = search law.symbol_full
 
 read-symbol-requires : tie.Need-read-symbol-requires
 read-symbol-requires c κs = search rules
@@ -25,13 +25,13 @@ read-repeat-requires : tie.Need-read-repeat-requires
 read-repeat-requires c κs = search rules
 
 returns-2 : tie.Need-returns-2
-returns-2 c = search law.symbol-none
+returns-2 c = search law.symbol_none
 
 same_length : tie.Need-same-length
 same_length c = search rules
 
 returns-3 : tie.Need-returns-3
-returns-3 c = search law.symbol-item
+returns-3 c = search law.symbol_item_rule
 
 pub read-symbol-item-spec : {M : Type 1} → statement M
 read-symbol-item-spec =

@@ -4,7 +4,7 @@ use Rattle.pattern.proofs.set.read_member.Statement.{statement}
 use Rattle.pattern.proofs.set.read_member.Tie as tie
 
 returns : tie.Need-returns
-returns c = search law.member-end
+returns c = search law.member_end
 
 mul-x : tie.Need-overflow-mul-x
 mul-x c = search rules
@@ -19,16 +19,16 @@ read-escaped-requires : tie.Need-read-escaped-requires
 read-escaped-requires c κs = search rules
 
 returns-2 : tie.Need-returns-2
-returns-2 c = search law.member-escaped
+returns-2 c = search law.member_escaped
 
 returns-3 : tie.Need-returns-3
-returns-3 c = search law.member-special
+returns-3 c = search law.member_special
 
 add-t4 : tie.Need-overflow-add-t4
 add-t4 c = search rules
 
 returns-4 : tie.Need-returns-4
-returns-4 c = search law.member-plain
+returns-4 c = search law.member_plain
 
 pub read-member-spec : {M : Type 1} → statement M
 read-member-spec =

@@ -25,7 +25,7 @@ enum_told : tie.Need-enum-told invariant-loop decreases-loop
 enum_told c = search rules
 
 returns : tie.Need-returns invariant-loop decreases-loop
-returns c = c.before.before.before.loop.invariant _ (law.members-bad _ c.before.before.before.loop.i c.before.before.before.before.before.args.c c.before.before.before.loop.hit c.before.before.read-range.ensures c.enum_told.given.1)
+returns c = c.before.before.before.loop.invariant _ (law.members_bad _ c.before.before.before.loop.i c.before.before.before.before.before.args.c c.before.before.before.loop.hit c.before.before.read-range.ensures c.enum_told.given.1)
 
 enum-known-e : tie.Need-enum-known-e invariant-loop decreases-loop
 enum-known-e c = search rules
@@ -37,13 +37,13 @@ add-t14 : tie.Need-overflow-add-t14 invariant-loop decreases-loop
 add-t14 c = let h = c.before.is_at.ensures.1 c.if1.true in omega arith
 
 returns-2 : tie.Need-returns-2 invariant-loop decreases-loop
-returns-2 c = c.before.before.before.before.before.before.loop.invariant _ (law.members-close _ c.before.before.before.before.before.before.loop.i c.before.before.before.before.before.before.before.before.args.c c.before.before.before.before.before.before.loop.hit c.before.before.before.before.before.read-range.ensures c.before.before.before.e.given.1 c.before.is_at.ensures.0 c.if1.true)
+returns-2 c = c.before.before.before.before.before.before.loop.invariant _ (law.members_close _ c.before.before.before.before.before.before.loop.i c.before.before.before.before.before.before.before.before.args.c c.before.before.before.before.before.before.loop.hit c.before.before.before.before.before.read-range.ensures c.before.before.before.e.given.1 c.before.is_at.ensures.0 c.if1.true)
 
 loop-less : tie.Need-loop-smaller invariant-loop decreases-loop
-loop-less c = law.range-further _ c.before.before.before.before.before.before.loop.i c.before.before.before.before.before.read-range.ensures c.before.before.before.e.given.1
+loop-less c = law.range_further _ c.before.before.before.before.before.before.loop.i c.before.before.before.before.before.read-range.ensures c.before.before.before.e.given.1
 
 loop-again : tie.Need-loop-preserved invariant-loop decreases-loop
-loop-again c = λ y h. c.before.before.before.before.before.before.loop.invariant y (law.members-more _ c.before.before.before.before.before.before.loop.i c.before.before.before.before.before.before.before.before.args.c c.before.before.before.before.before.before.loop.hit c.before.before.before.before.before.read-range.ensures c.before.before.before.e.given.1 c.before.is_at.ensures.0 c.if1.false h)
+loop-again c = λ y h. c.before.before.before.before.before.before.loop.invariant y (law.members_more _ c.before.before.before.before.before.before.loop.i c.before.before.before.before.before.before.before.before.args.c c.before.before.before.before.before.before.loop.hit c.before.before.before.before.before.read-range.ensures c.before.before.before.e.given.1 c.before.is_at.ensures.0 c.if1.false h)
 
 pub read-members-spec : {M : Type 1} → statement M
 read-members-spec =

@@ -18,7 +18,7 @@ is-at-requires : tie.Need-is-at-requires
 is-at-requires c κs = search rules
 
 returns : tie.Need-returns
-returns c = search law.range-one
+returns c = search law.range_one
 
 add-read-member : tie.Need-overflow-add-read-member
 add-read-member c = let h = c.before.is_at.ensures.1 (not-false _ c.if1.false) in omega arith
@@ -36,13 +36,13 @@ returns-2 : tie.Need-returns-2
 returns-2 c = search law.range_none
 
 returns-3 : tie.Need-returns-3
-returns-3 c = search law.range-open
+returns-3 c = search law.range_open
 
 returns-4 : tie.Need-returns-4
-returns-4 c = search law.range-reversed
+returns-4 c = search law.range_reversed
 
 returns-5 : tie.Need-returns-5
-returns-5 c = search law.range-both
+returns-5 c = search law.range_both
 
 pub read-range-spec : {M : Type 1} → statement M
 read-range-spec =

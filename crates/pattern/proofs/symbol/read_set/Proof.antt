@@ -17,13 +17,13 @@ negate-requires : tie.Need-negate-requires
 negate-requires c κs = search rules
 
 returns : tie.Need-returns
-returns c = search law.set-negated
+returns c = search law.set_negated
 
 read-members-requires-2 : tie.Need-read-members-requires-2
 read-members-requires-2 c κs = search rules
 
 returns-2 : tie.Need-returns-2
-returns-2 c = search law.set-plain
+returns-2 c = search law.set_plain
 
 pub read-set-spec : {M : Type 1} → statement M
 read-set-spec =

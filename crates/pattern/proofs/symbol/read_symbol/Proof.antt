@@ -16,7 +16,7 @@ add-t11 : tie.Need-overflow-add-t11
 add-t11 c = search rules
 
 returns-2 : tie.Need-returns-2
-returns-2 c = search law.symbol-dot
+returns-2 c = search law.symbol_dot
 
 add-read-escaped : tie.Need-overflow-add-read-escaped
 add-read-escaped c = search rules
@@ -31,10 +31,10 @@ enum-known-e : tie.Need-enum-known-e
 enum-known-e c = search rules
 
 returns-3 : tie.Need-returns-3
-returns-3 c = search law.symbol-escape-end
+returns-3 c = search law.symbol_escape_end
 
 returns-4 : tie.Need-returns-4
-returns-4 c = search law.symbol-escaped
+returns-4 c = search law.symbol_escaped
 
 add-read-set : tie.Need-overflow-add-read-set
 add-read-set c = search rules
@@ -43,19 +43,19 @@ read-set-requires : tie.Need-read-set-requires
 read-set-requires c κs = search rules
 
 returns-5 : tie.Need-returns-5
-returns-5 c = search law.symbol-set
+returns-5 c = search law.symbol_set
 
 is-special-requires : tie.Need-is-special-requires
 is-special-requires c κs = search rules
 
 returns-6 : tie.Need-returns-6
-returns-6 c = search law.symbol-special
+returns-6 c = search law.symbol_special
 
 add-t7 : tie.Need-overflow-add-t7
 add-t7 c = search rules
 
 returns-7 : tie.Need-returns-7
-returns-7 c = search law.symbol-plain
+returns-7 c = search law.symbol_plain
 
 pub read-symbol-spec : {M : Type 1} → statement M
 read-symbol-spec =

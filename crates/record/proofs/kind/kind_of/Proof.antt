@@ -16,19 +16,19 @@ enum-told-2 : tie.Need-enum-told-2
 enum-told-2 c = search rules
 
 returns : tie.Need-returns
-returns c = search law.kind-unknown
+returns c = search law.kind_unknown
 
 returns-2 : tie.Need-returns-2
-returns-2 c = search law.kind-scalar
+returns-2 c = search law.kind_scalar
 
 returns-3 : tie.Need-returns-3
-returns-3 c = search law.kind-array
+returns-3 c = search law.kind_array
 
 returns-4 : tie.Need-returns-4
-returns-4 c = search law.kind-none
+returns-4 c = search law.kind_none
 
 returns-5 : tie.Need-returns-5
-returns-5 c = search law.kind-never
+returns-5 c = search law.kind_never
 
 pub kind-of-spec : {M : Type 1} → statement M
 kind-of-spec =

@@ -117,7 +117,7 @@ unfolding integer_kind scalar_kind
 returns-16 c = rw c.before.match.keys16 c.scalar16.ensures
 
 returns-17 : tie.Need-returns-17
-returns-17 c = law.unknown-number _ c.match.rest
+returns-17 c = law.unknown_number _ c.match.rest
 
 pub scalar-kind-spec : {M : Type 1} → statement M
 scalar-kind-spec =

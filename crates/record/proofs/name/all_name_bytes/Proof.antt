@@ -23,7 +23,7 @@ is-name-byte-requires : tie.Need-is-name-byte-requires invariant-loop decreases-
 is-name-byte-requires c κs = search rules
 
 returns : tie.Need-returns invariant-loop decreases-loop
-returns c = search law.all-not
+returns c = search law.all_not
 
 add-i : tie.Need-overflow-add-i invariant-loop decreases-loop
 add-i c = search rules
@@ -32,7 +32,7 @@ loop-less : tie.Need-loop-smaller invariant-loop decreases-loop
 loop-less c = search rules
 
 loop-again : tie.Need-loop-preserved invariant-loop decreases-loop
-loop-again c = (search rules, search law.all-next)
+loop-again c = (search rules, search law.all_next)
 
 returns-2 : tie.Need-returns-2 invariant-loop decreases-loop
 returns-2 c = search law.all_end

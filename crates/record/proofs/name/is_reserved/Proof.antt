@@ -58,7 +58,7 @@ same-name-requires-9 : tie.Need-same-name-requires-9
 same-name-requires-9 c κs = search rules
 
 returns : tie.Need-returns
-returns c = rw (c.before.before.before.before.before.before.before.before.before.before.before.before.before.before.before.before.same_name.ensures, c.before.before.before.before.before.before.before.before.before.before.before.before.before.before.same-name2.ensures, c.before.before.before.before.before.before.before.before.before.before.before.before.same-name3.ensures, c.before.before.before.before.before.before.before.before.before.before.same-name4.ensures, c.before.before.before.before.before.before.before.before.same-name5.ensures, c.before.before.before.before.before.before.same-name6.ensures, c.before.before.before.before.same-name7.ensures, c.before.before.same-name8.ensures, c.same-name9.ensures) (law.reserved-any _)
+returns c = rw (c.before.before.before.before.before.before.before.before.before.before.before.before.before.before.before.before.same_name.ensures, c.before.before.before.before.before.before.before.before.before.before.before.before.before.before.same-name2.ensures, c.before.before.before.before.before.before.before.before.before.before.before.before.same-name3.ensures, c.before.before.before.before.before.before.before.before.before.before.same-name4.ensures, c.before.before.before.before.before.before.before.before.same-name5.ensures, c.before.before.before.before.before.before.same-name6.ensures, c.before.before.before.before.same-name7.ensures, c.before.before.same-name8.ensures, c.same-name9.ensures) (law.reserved_any _)
 
 pub is-reserved-spec : {M : Type 1} → statement M
 is-reserved-spec =

@@ -14,7 +14,7 @@ abbrev decreases-loop : tie.decreases-loop
 decreases-loop a b i₀ i = i
 
 returns : tie.Need-returns invariant-loop decreases-loop
-returns c = search law.same-lengths
+returns c = search law.same_lengths
 
 loop-holds : tie.Need-loop-init invariant-loop decreases-loop
 loop-holds c = (search rules, search rules, law.same_start _ _ c.if1.false)

@@ -7,7 +7,7 @@ use Rattle.record.proofs.read.record_at.Statement.{statement}
 use Rattle.record.proofs.read.record_at.Tie as tie
 
 returns : tie.Need-returns
-returns c = search law.record-past
+returns c = search law.record_past
 
 sub-left : tie.Need-overflow-sub-left
 sub-left c = search rules
@@ -16,7 +16,7 @@ end-or-broken-requires : tie.Need-end-or-broken-requires
 end-or-broken-requires c κs = search rules
 
 returns-2 : tie.Need-returns-2
-returns-2 c = search law.record-short
+returns-2 c = search law.record_short
 
 number-at-requires : tie.Need-number-at-requires
 number-at-requires c κs = search rules
@@ -28,7 +28,7 @@ add-next-2 : tie.Need-overflow-add-next-2
 add-next-2 c = omega (arith, c.number_at.ensures, number_below c.before.before.before.before.args.s.now c.before.before.before.before.args.at (λ (i : ℕ). (c.before.before.before.shared-slice-known.given i).fits), c.before.before.before.before.well-formed.0.1)
 
 returns-3 : tie.Need-returns-3
-returns-3 c = search law.record-over
+returns-3 c = search law.record_over
 
 add-number-at : tie.Need-overflow-add-number-at
 add-number-at c = search rules
@@ -40,7 +40,7 @@ add-t7 : tie.Need-overflow-add-t7
 add-t7 c = search rules
 
 returns-4 : tie.Need-returns-4
-returns-4 c = search law.record-whole
+returns-4 c = search law.record_whole
 
 pub record-at-spec : {M : Type 1} → statement M
 record-at-spec =

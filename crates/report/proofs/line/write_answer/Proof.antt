@@ -37,19 +37,19 @@ same_length : tie.Need-same-length
 same_length c = search rules
 
 returns : tie.Need-returns
-returns c = search law.included-written
+returns c = search law.included_written
 
 same-length-2 : tie.Need-same-length-2
 same-length-2 c = search rules
 
 returns-2 : tie.Need-returns-2
-returns-2 c = search law.excluded-written
+returns-2 c = search law.excluded_written
 
 same-length-3 : tie.Need-same-length-3
 same-length-3 c = search rules
 
 returns-3 : tie.Need-returns-3
-returns-3 c = search law.failed-written
+returns-3 c = search law.failed_written
 
 pub write-answer-spec : {M : Type 1} → statement M
 write-answer-spec =

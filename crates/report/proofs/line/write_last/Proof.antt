@@ -13,7 +13,7 @@ same_length : tie.Need-same-length
 same_length c = search rules
 
 returns : tie.Need-returns
-returns c = search law.terminated-written
+returns c = search law.terminated_written
 
 pub write-last-spec : {M : Type 1} → statement M
 write-last-spec =

@@ -19,7 +19,7 @@ same_length : tie.Need-same-length
 same_length c = search rules
 
 returns : tie.Need-returns
-returns c = search law.line-written
+returns c = search law.line_written
 
 pub write-line-spec : {M : Type 1} → statement M
 write-line-spec =

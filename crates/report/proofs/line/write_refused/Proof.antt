@@ -19,7 +19,7 @@ same_length : tie.Need-same-length
 same_length c = search rules
 
 returns : tie.Need-returns
-returns c = search law.refused-written
+returns c = search law.refused_written
 
 pub write-refused-spec : {M : Type 1} → statement M
 write-refused-spec =

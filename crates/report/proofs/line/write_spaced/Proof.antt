@@ -13,7 +13,7 @@ same_length : tie.Need-same-length
 same_length c = search rules
 
 returns : tie.Need-returns
-returns c = search law.spaced-written
+returns c = search law.spaced_written
 
 pub write-spaced-spec : {M : Type 1} → statement M
 write-spaced-spec =

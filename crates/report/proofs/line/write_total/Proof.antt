@@ -19,7 +19,7 @@ same_length : tie.Need-same-length
 same_length c = search rules
 
 returns : tie.Need-returns
-returns c = search law.total-written
+returns c = search law.total_written
 
 pub write-total-spec : {M : Type 1} → statement M
 write-total-spec =

@@ -16,7 +16,7 @@ same_length : tie.Need-same-length
 same_length c = search rules
 
 returns : tie.Need-returns
-returns c = search law.totals-written
+returns c = search law.totals_written
 
 pub write-totals-spec : {M : Type 1} → statement M
 write-totals-spec =

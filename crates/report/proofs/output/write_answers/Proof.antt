@@ -38,19 +38,19 @@ evaluate-accepted-requires : tie.Need-evaluate-accepted-requires invariant-loop 
 evaluate-accepted-requires c κs = search rules
 
 add-count : tie.Need-overflow-add-count invariant-loop decreases-loop
-add-count c = let m = law.writing-room _ _ _ _ _ _ _ _ _ c.before.before.before.before.before.before.before.before.loop.invariant.0 c.before.before.before.before.before.before.before.record-at.ensures c.before.before.before.before.before.start.given.1 in omega arith
+add-count c = let m = law.writing_room _ _ _ _ _ _ _ _ _ c.before.before.before.before.before.before.before.before.loop.invariant.0 c.before.before.before.before.before.before.before.record-at.ensures c.before.before.before.before.before.start.given.1 in omega arith
 
 write-answer-requires : tie.Need-write-answer-requires invariant-loop decreases-loop
 write-answer-requires c κs = search rules
 
 count-answer-requires : tie.Need-count-answer-requires invariant-loop decreases-loop
-count-answer-requires c κs = let m = law.writing-few _ _ _ _ _ _ _ _ _ c.before.before.before.before.before.before.before.before.before.before.before.before.loop.invariant.0 c.before.before.before.before.before.before.before.before.before.before.before.record-at.ensures c.before.before.before.before.before.before.before.before.before.start.given.1 in omega (arith, c.before.before.before.before.before.before.before.before.before.before.before.before.before.before.before.before.before.before.well-formed)
+count-answer-requires c κs = let m = law.writing_few _ _ _ _ _ _ _ _ _ c.before.before.before.before.before.before.before.before.before.before.before.before.loop.invariant.0 c.before.before.before.before.before.before.before.before.before.before.before.record-at.ensures c.before.before.before.before.before.before.before.before.before.start.given.1 in omega (arith, c.before.before.before.before.before.before.before.before.before.before.before.before.before.before.before.before.before.before.well-formed)
 
 loop-less : tie.Need-loop-smaller invariant-loop decreases-loop
 loop-less c = search reach.step_less
 
 loop-again : tie.Need-loop-preserved invariant-loop decreases-loop
-loop-again c = (search law.writing-next, search rules)
+loop-again c = (search law.writing_next, search rules)
 
 enum_told : tie.Need-enum-told invariant-loop decreases-loop
 enum_told c = search rules
@@ -59,10 +59,10 @@ write-total-requires : tie.Need-write-total-requires invariant-loop decreases-lo
 write-total-requires c κs = search rules
 
 same_length : tie.Need-same-length invariant-loop decreases-loop
-same_length c = search law.writing-same
+same_length c = search law.writing_same
 
 returns : tie.Need-returns invariant-loop decreases-loop
-returns c = search law.writing-broken
+returns c = search law.writing_broken
 
 enum-told-2 : tie.Need-enum-told-2 invariant-loop decreases-loop
 enum-told-2 c = search rules
@@ -71,10 +71,10 @@ write-total-requires-2 : tie.Need-write-total-requires-2 invariant-loop decrease
 write-total-requires-2 c κs = search rules
 
 same-length-2 : tie.Need-same-length-2 invariant-loop decreases-loop
-same-length-2 c = search law.writing-same
+same-length-2 c = search law.writing_same
 
 returns-2 : tie.Need-returns-2 invariant-loop decreases-loop
-returns-2 c = search law.writing-end
+returns-2 c = search law.writing_end
 
 pub write-answers-spec : {M : Type 1} → statement M
 write-answers-spec =

@@ -13,7 +13,7 @@ same_length : tie.Need-same-length
 same_length c = search rules
 
 returns : tie.Need-returns
-returns c = search law.indivisible-written
+returns c = search law.indivisible_written
 
 pub write-indivisible-spec : {M : Type 1} → statement M
 write-indivisible-spec =

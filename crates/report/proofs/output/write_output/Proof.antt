@@ -28,13 +28,13 @@ same_length : tie.Need-same-length
 same_length c = search rules
 
 returns : tie.Need-returns
-returns c = (search law.refused-written, fits.refused-fits _ _ _ c.before.before.before.before.before.before.before.before.check.ensures c.before.before.before.before.before.before.x.given.1 (search rules) (omega arith))
+returns c = (search law.refused_written, fits.refused_fits _ _ _ c.before.before.before.before.before.before.before.before.check.ensures c.before.before.before.before.before.before.x.given.1 (search rules) (omega arith))
 
 same-length-2 : tie.Need-same-length-2
 same-length-2 c = search rules
 
 returns-2 : tie.Need-returns-2
-returns-2 c = (search law.accepted-written, search fits.accepted-fits)
+returns-2 c = (search law.accepted_written, search fits.accepted_fits)
 
 pub write-output-spec : {M : Type 1} → statement M
 write-output-spec =

@@ -11,7 +11,7 @@ same_length : tie.Need-same-length
 same_length c = search rules
 
 returns : tie.Need-returns
-returns c = law.long-written _ _ c.before.before.before.before.before.before.before.before.before.args.run.now (omega (arith, c.before.before.before.before.if1.true)) c.before.before.write-indivisible.ensures
+returns c = law.long_written _ _ c.before.before.before.before.before.before.before.before.before.args.run.now (omega (arith, c.before.before.before.before.if1.true)) c.before.before.write-indivisible.ensures
 
 read-run-requires : tie.Need-read-run-requires
 read-run-requires c κs = search rules
@@ -32,13 +32,13 @@ same-length-2 : tie.Need-same-length-2
 same-length-2 c = search rules
 
 returns-2 : tie.Need-returns-2
-returns-2 c = search law.broken-written
+returns-2 c = search law.broken_written
 
 same-length-3 : tie.Need-same-length-3
 same-length-3 c = search rules
 
 returns-3 : tie.Need-returns-3
-returns-3 c = search law.answers-written
+returns-3 c = search law.answers_written
 
 pub write-run-spec : {M : Type 1} → statement M
 write-run-spec =

@@ -17,7 +17,7 @@ abbrev decreases-loop : tie.decreases-loop
 decreases-loop run at₀ count₀ at count = length run - at
 
 loop-holds : tie.Need-loop-init invariant-loop decreases-loop
-loop-holds c = (search law.run-begins, search rules)
+loop-holds c = (search law.run_begins, search rules)
 
 record-at-requires : tie.Need-record-at-requires invariant-loop decreases-loop
 record-at-requires c κs = search rules
@@ -26,7 +26,7 @@ enum-known-kind : tie.Need-enum-known-kind invariant-loop decreases-loop
 enum-known-kind c = search rules
 
 returns : tie.Need-returns invariant-loop decreases-loop
-returns c = search law.run-other
+returns c = search law.run_other
 
 add-count : tie.Need-overflow-add-count invariant-loop decreases-loop
 add-count c = let m = reach.step_room _ _ c.before.before.before.before.record-at.ensures c.before.before.kind.given.1 _ c.before.before.before.before.before.loop.invariant.1 in omega arith
@@ -35,13 +35,13 @@ loop-less : tie.Need-loop-smaller invariant-loop decreases-loop
 loop-less c = search reach.step_less
 
 loop-again : tie.Need-loop-preserved invariant-loop decreases-loop
-loop-again c = (search law.run-next, search reach.step_counts)
+loop-again c = (search law.run_next, search reach.step_counts)
 
 enum_told : tie.Need-enum-told invariant-loop decreases-loop
 enum_told c = search rules
 
 returns-2 : tie.Need-returns-2 invariant-loop decreases-loop
-returns-2 c = search law.run-broken
+returns-2 c = search law.run_broken
 
 enum-told-2 : tie.Need-enum-told-2 invariant-loop decreases-loop
 enum-told-2 c = search rules

@@ -22,13 +22,13 @@ add-t6 : tie.Need-overflow-add-t6
 add-t6 c = search rules
 
 returns : tie.Need-returns
-returns c = search law.counts-included
+returns c = search law.counts_included
 
 returns-2 : tie.Need-returns-2
-returns-2 c = search law.counts-excluded
+returns-2 c = search law.counts_excluded
 
 returns-3 : tie.Need-returns-3
-returns-3 c = search law.counts-failed
+returns-3 c = search law.counts_failed
 
 pub count-answer-spec : {M : Type 1} → statement M
 count-answer-spec =

@@ -30,7 +30,7 @@ loop-less : tie.Need-loop-smaller invariant-loop decreases-loop
 loop-less c = search rules
 
 loop-again : tie.Need-loop-preserved invariant-loop decreases-loop
-loop-again c = law.has-next _ _ _ c.before.before.loop.found c.before.before.loop.invariant c.before.loop-test.true
+loop-again c = law.has_next _ _ _ c.before.before.loop.found c.before.before.loop.invariant c.before.loop-test.true
 
 returns : tie.Need-returns invariant-loop decreases-loop
 returns c = law.has_end _ _ _ c.before.loop.found c.before.loop.invariant c.loop-test.false

@@ -38,13 +38,13 @@ loop-less : tie.Need-loop-smaller invariant-loop decreases-loop
 loop-less c = search rules
 
 loop-again : tie.Need-loop-preserved invariant-loop decreases-loop
-loop-again c = (law.hash-below _, law.hash-next _ _ _ c.before.before.before.loop.invariant.1 c.before.before.loop-test.true c.lower_of.ensures)
+loop-again c = (law.hash_below _, law.hash_next _ _ _ c.before.before.before.loop.invariant.1 c.before.before.loop-test.true c.lower_of.ensures)
 
 cast-result : tie.Need-overflow-cast-result invariant-loop decreases-loop
 cast-result c = search rules
 
 returns : tie.Need-returns invariant-loop decreases-loop
-returns c = law.hash-end _ _ _ c.before.loop.invariant.1 c.loop-test.false
+returns c = law.hash_end _ _ _ c.before.loop.invariant.1 c.loop-test.false
 
 pub hash-of-spec : {M : Type 1} → statement M
 hash-of-spec =

@@ -25,13 +25,13 @@ piece-requires-3 : tie.Need-piece-requires-3
 piece-requires-3 c κs = search rules
 
 returns : tie.Need-returns
-returns c = search law.class-whole
+returns c = search law.class_whole
 
 returns-2 : tie.Need-returns-2
-returns-2 c = search law.class-broken
+returns-2 c = search law.class_broken
 
 returns-3 : tie.Need-returns-3
-returns-3 c = search law.class-end
+returns-3 c = search law.class_end
 
 pub class-name-spec : {M : Type 1} → statement M
 class-name-spec =

@@ -36,7 +36,7 @@ same-name-requires : tie.Need-same-name-requires invariant-loop decreases-loop
 same-name-requires c κs = search rules
 
 returns : tie.Need-returns invariant-loop decreases-loop
-returns c = search law.find-found
+returns c = search law.find_found
 
 add-number : tie.Need-overflow-add-number invariant-loop decreases-loop
 add-number c = omega (arith, reach.step_room _ _ c.before.before.before.before.before.before.record-at.ensures c.before.before.before.before.kind.given.1 _ c.before.before.before.before.before.before.before.loop.invariant.0)
@@ -45,19 +45,19 @@ loop-less : tie.Need-loop-smaller invariant-loop decreases-loop
 loop-less c = search reach.step_less
 
 loop-again : tie.Need-loop-preserved invariant-loop decreases-loop
-loop-again c = (search reach.step_counts, search law.find-next)
+loop-again c = (search reach.step_counts, search law.find_next)
 
 enum_told : tie.Need-enum-told invariant-loop decreases-loop
 enum_told c = search rules
 
 returns-2 : tie.Need-returns-2 invariant-loop decreases-loop
-returns-2 c = search law.find-broken
+returns-2 c = search law.find_broken
 
 enum-told-2 : tie.Need-enum-told-2 invariant-loop decreases-loop
 enum-told-2 c = search rules
 
 returns-3 : tie.Need-returns-3 invariant-loop decreases-loop
-returns-3 c = search law.find-end
+returns-3 c = search law.find_end
 
 pub find-property-spec : {M : Type 1} → statement M
 find-property-spec =

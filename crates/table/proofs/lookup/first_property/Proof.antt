@@ -16,13 +16,13 @@ enum-told-2 : tie.Need-enum-told-2
 enum-told-2 c = search rules
 
 returns : tie.Need-returns
-returns c = search law.first-whole
+returns c = search law.first_whole
 
 returns-2 : tie.Need-returns-2
-returns-2 c = search law.first-broken
+returns-2 c = search law.first_broken
 
 returns-3 : tie.Need-returns-3
-returns-3 c = search law.first-end
+returns-3 c = search law.first_end
 
 pub first-property-spec : {M : Type 1} → statement M
 first-property-spec =

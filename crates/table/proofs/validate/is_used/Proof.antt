@@ -7,7 +7,7 @@ has-hash-requires : tie.Need-has-hash-requires
 has-hash-requires c κs = search rules
 
 returns : tie.Need-returns
-returns c = law.new-name _ _ _ c.before.before.before.before.before.requires.0 _ c.before.before.before.before.before.requires.1 _ c.before.has-hash.ensures c.if1.true
+returns c = law.new_name _ _ _ c.before.before.before.before.before.requires.0 _ c.before.before.before.before.before.requires.1 _ c.before.has-hash.ensures c.if1.true
 
 name-used-requires : tie.Need-name-used-requires
 name-used-requires c κs = search rules

@@ -32,28 +32,28 @@ same-name-requires : tie.Need-same-name-requires invariant-loop decreases-loop
 same-name-requires c κs = search rules
 
 returns : tie.Need-returns invariant-loop decreases-loop
-returns c = search law.used-found
+returns c = search law.used_found
 
 loop-less : tie.Need-loop-smaller invariant-loop decreases-loop
 loop-less c = search reach.step_less
 
 loop-again : tie.Need-loop-preserved invariant-loop decreases-loop
-loop-again c = search law.used-next
+loop-again c = search law.used_next
 
 enum_told : tie.Need-enum-told invariant-loop decreases-loop
 enum_told c = search rules
 
 returns-2 : tie.Need-returns-2 invariant-loop decreases-loop
-returns-2 c = search law.used-broken
+returns-2 c = search law.used_broken
 
 enum-told-2 : tie.Need-enum-told-2 invariant-loop decreases-loop
 enum-told-2 c = search rules
 
 returns-3 : tie.Need-returns-3 invariant-loop decreases-loop
-returns-3 c = search law.used-end
+returns-3 c = search law.used_end
 
 returns-4 : tie.Need-returns-4 invariant-loop decreases-loop
-returns-4 c = search law.used-past
+returns-4 c = search law.used_past
 
 pub name-used-spec : {M : Type 1} → statement M
 name-used-spec =

@@ -21,7 +21,7 @@ abbrev decreases-loop : tie.decreases-loop
 decreases-loop t first hashes₀ at₀ count₀ hashes at count = length t - at
 
 loop-holds : tie.Need-loop-init invariant-loop decreases-loop
-loop-holds c = (here, law.count-start _ _, law.properties-start _ _, refl, search law.hashes-start)
+loop-holds c = (here, law.count_start _ _, law.properties_start _ _, refl, search law.hashes_start)
 
 record-at-requires : tie.Need-record-at-requires invariant-loop decreases-loop
 record-at-requires c κs = search rules
@@ -33,7 +33,7 @@ malformed-requires : tie.Need-malformed-requires invariant-loop decreases-loop
 malformed-requires c κs = search rules
 
 returns : tie.Need-returns invariant-loop decreases-loop
-returns c = search law.properties-many
+returns c = search law.properties_many
 
 piece-requires : tie.Need-piece-requires invariant-loop decreases-loop
 piece-requires c κs = search rules
@@ -45,7 +45,7 @@ malformed-requires-2 : tie.Need-malformed-requires-2 invariant-loop decreases-lo
 malformed-requires-2 c κs = search rules
 
 returns-2 : tie.Need-returns-2 invariant-loop decreases-loop
-returns-2 c = search law.properties-bad
+returns-2 c = search law.properties_bad
 
 hash-of-requires : tie.Need-hash-of-requires invariant-loop decreases-loop
 hash-of-requires c κs = search rules
@@ -54,7 +54,7 @@ array-share-prefix-hashes : tie.Need-array-share-prefix-hashes invariant-loop de
 array-share-prefix-hashes c = search rules
 
 slice-aggregate-is-used : tie.Need-slice-aggregate-is-used invariant-loop decreases-loop
-slice-aggregate-is-used c = search hash-law.hashes-taken
+slice-aggregate-is-used c = search hash-law.hashes_taken
 
 is-used-requires : tie.Need-is-used-requires invariant-loop decreases-loop
 is-used-requires c κs = (c.before.hash-of.ensures, c.before.before.before.before.before.before.before.before.before.before.loop.invariant.4)
@@ -63,7 +63,7 @@ name-twice-requires : tie.Need-name-twice-requires invariant-loop decreases-loop
 name-twice-requires c κs = search rules
 
 returns-3 : tie.Need-returns-3 invariant-loop decreases-loop
-returns-3 c = search law.properties-twice
+returns-3 c = search law.properties_twice
 
 mul-hashes : tie.Need-overflow-mul-hashes invariant-loop decreases-loop
 mul-hashes c = search rules
@@ -78,7 +78,7 @@ loop-less : tie.Need-loop-smaller invariant-loop decreases-loop
 loop-less c = search reach.step_less
 
 loop-again : tie.Need-loop-preserved invariant-loop decreases-loop
-loop-again c = (search law.walked, search law.count_next, search (law.properties-walked, law.properties-next), search hash-law.hashes-size, search law.hashes-next)
+loop-again c = (search law.walked, search law.count_next, search (law.properties_walked, law.properties_next), search hash-law.hashes_size, search law.hashes_next)
 
 enum_told : tie.Need-enum-told invariant-loop decreases-loop
 enum_told c = search rules
@@ -87,13 +87,13 @@ malformed-requires-3 : tie.Need-malformed-requires-3 invariant-loop decreases-lo
 malformed-requires-3 c κs = search rules
 
 returns-4 : tie.Need-returns-4 invariant-loop decreases-loop
-returns-4 c = search law.properties-broken
+returns-4 c = search law.properties_broken
 
 enum-told-2 : tie.Need-enum-told-2 invariant-loop decreases-loop
 enum-told-2 c = search rules
 
 returns-5 : tie.Need-returns-5 invariant-loop decreases-loop
-returns-5 c = search law.properties-end
+returns-5 c = search law.properties_end
 
 pub read-properties-spec : {M : Type 1} → statement M
 read-properties-spec =

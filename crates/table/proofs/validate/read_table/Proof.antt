@@ -7,7 +7,7 @@ malformed-requires : tie.Need-malformed-requires
 malformed-requires c κs = search rules
 
 returns : tie.Need-returns
-returns c = search law.table-long
+returns c = search law.table_long
 
 record-at-requires : tie.Need-record-at-requires
 record-at-requires c κs = search rules
@@ -25,7 +25,7 @@ malformed-requires-2 : tie.Need-malformed-requires-2
 malformed-requires-2 c κs = search rules
 
 returns-2 : tie.Need-returns-2
-returns-2 c = search law.table-no-class
+returns-2 c = search law.table_no_class
 
 read-properties-requires : tie.Need-read-properties-requires
 read-properties-requires c κs = search rules
@@ -43,13 +43,13 @@ malformed-requires-4 : tie.Need-malformed-requires-4
 malformed-requires-4 c κs = search rules
 
 returns-3 : tie.Need-returns-3
-returns-3 c = search law.table-class
+returns-3 c = search law.table_class
 
 returns-4 : tie.Need-returns-4
-returns-4 c = search law.table-broken
+returns-4 c = search law.table_broken
 
 returns-5 : tie.Need-returns-5
-returns-5 c = search law.table-end
+returns-5 c = search law.table_end
 
 pub read-table-spec : {M : Type 1} → statement M
 read-table-spec =

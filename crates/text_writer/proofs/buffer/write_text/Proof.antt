@@ -29,10 +29,10 @@ loop-less : tie.Need-loop-smaller invariant-loop decreases-loop
 loop-less c = search rules
 
 loop-again : tie.Need-loop-preserved invariant-loop decreases-loop
-loop-again c = search law.written-more
+loop-again c = search law.written_more
 
 same_length : tie.Need-same-length invariant-loop decreases-loop
-same_length c = law.written-length c.before.loop.invariant
+same_length c = law.written_length c.before.loop.invariant
 
 returns : tie.Need-returns invariant-loop decreases-loop
 returns c = search law.written_all

@@ -56,7 +56,7 @@ write-decimal-same-length : (t : ℕ) → write-decimal-lts.Need-same-length (
   write-decimal-below t,
   write-decimal.Post,
 ) (write-decimal-at t) write-decimal.Post
-write-decimal-same-length t c = search written.written-length
+write-decimal-same-length t c = search written.written_length
 
 write-decimal-returns : (t : ℕ) → write-decimal-lts.Need-returns (
   digit-byte-reads.Asked,
@@ -66,7 +66,7 @@ write-decimal-returns : (t : ℕ) → write-decimal-lts.Need-returns (
   write-decimal-below t,
   write-decimal.Post,
 ) (write-decimal-at t) write-decimal.Post
-write-decimal-returns t c = search law.decimal-one
+write-decimal-returns t c = search law.decimal_one
 
 write-decimal-write-decimal-requires : (t : ℕ) → write-decimal-lts.Need-write-decimal-requires (
   digit-byte-reads.Asked,
@@ -106,7 +106,7 @@ write-decimal-same-length-2 : (t : ℕ) → write-decimal-lts.Need-same-length-2
   write-decimal-below t,
   write-decimal.Post,
 ) (write-decimal-at t) write-decimal.Post
-write-decimal-same-length-2 t c = search written.written-lengths
+write-decimal-same-length-2 t c = search written.written_lengths
 
 write-decimal-returns-2 : (t : ℕ) → write-decimal-lts.Need-returns-2 (
   digit-byte-reads.Asked,
@@ -116,7 +116,7 @@ write-decimal-returns-2 : (t : ℕ) → write-decimal-lts.Need-returns-2 (
   write-decimal-below t,
   write-decimal.Post,
 ) (write-decimal-at t) write-decimal.Post
-write-decimal-returns-2 t c = search law.decimal-last
+write-decimal-returns-2 t c = search law.decimal_last
 
 pub +write-decimal-spec : {M : Type 1} → statement M
 +write-decimal-spec = close μ-write-decimal λ t. write-decimal-lts.spec (

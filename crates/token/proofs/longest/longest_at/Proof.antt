@@ -16,7 +16,7 @@ word-token-requires : tie.Need-word-token-requires
 word-token-requires c κs = search rules
 
 returns : tie.Need-returns
-returns c = (law.by-letter c.before.before.before.before.before.args.q.now c.before.before.before.before.before.args.s (sym c.before.before.is-letter.ensures ∙ c.before.if1.true) c.word-token.ensures.0 c.word-token.ensures.1, c.word-token.ensures.1)
+returns c = (law.by_letter c.before.before.before.before.before.args.q.now c.before.before.before.before.before.args.s (sym c.before.before.is-letter.ensures ∙ c.before.if1.true) c.word-token.ensures.0 c.word-token.ensures.1, c.word-token.ensures.1)
 
 in-range-requires : tie.Need-in-range-requires
 in-range-requires c κs = search rules
@@ -29,26 +29,26 @@ number-token-requires c κs = search rules
 
 returns-2 : tie.Need-returns-2
 unfolding in_class
-returns-2 c = (law.by-digit-or-sign c.before.before.before.before.before.before.before.before.args.q.now c.before.before.before.before.before.before.before.before.args.s (sym c.before.before.before.before.before.is-letter.ensures ∙ c.before.before.before.before.if1.false) (rw (← is_decimal _ c.before.before.before.in-range.ensures, ← c.before.before.is-one-of.ensures) c.before.if2.true) c.number-token.ensures.0 c.number-token.ensures.1, c.number-token.ensures.1)
+returns-2 c = (law.by_digit_or_sign c.before.before.before.before.before.before.before.before.args.q.now c.before.before.before.before.before.before.before.before.args.s (sym c.before.before.before.before.before.is-letter.ensures ∙ c.before.before.before.before.if1.false) (rw (← is_decimal _ c.before.before.before.in-range.ensures, ← c.before.before.is-one-of.ensures) c.before.if2.true) c.number-token.ensures.0 c.number-token.ensures.1, c.number-token.ensures.1)
 
 text-token-requires : tie.Need-text-token-requires
 text-token-requires c κs = search rules
 
 returns-3 : tie.Need-returns-3
-returns-3 c = (law.by-quote c.before.before.before.before.before.before.before.before.before.args.q.now c.before.before.before.before.before.before.before.before.before.args.s (sym c.before.before.before.before.before.before.is-letter.ensures ∙ c.before.before.before.before.before.if1.false) c.before.if3.true c.text-token.ensures.0 c.text-token.ensures.1, c.text-token.ensures.1)
+returns-3 c = (law.by_quote c.before.before.before.before.before.before.before.before.before.args.q.now c.before.before.before.before.before.before.before.before.before.args.s (sym c.before.before.before.before.before.before.is-letter.ensures ∙ c.before.before.before.before.before.if1.false) c.before.if3.true c.text-token.ensures.0 c.text-token.ensures.1, c.text-token.ensures.1)
 
 point-token-requires : tie.Need-point-token-requires
 point-token-requires c κs = search rules
 
 returns-4 : tie.Need-returns-4
-returns-4 c = (law.by-point c.before.before.before.before.before.before.before.before.before.before.args.q.now c.before.before.before.before.before.before.before.before.before.before.args.s c.before.if4.true c.point-token.ensures.0, c.point-token.ensures.1)
+returns-4 c = (law.by_point c.before.before.before.before.before.before.before.before.before.before.args.q.now c.before.before.before.before.before.before.before.before.before.before.args.s c.before.if4.true c.point-token.ensures.0, c.point-token.ensures.1)
 
 symbol-token-requires : tie.Need-symbol-token-requires
 symbol-token-requires c κs = search rules
 
 returns-5 : tie.Need-returns-5
 unfolding in_class
-returns-5 c = (law.by-symbol c.before.before.before.before.before.before.before.before.before.before.args.q.now c.before.before.before.before.before.before.before.before.before.before.args.s (sym c.before.before.before.before.before.before.before.is-letter.ensures ∙ c.before.before.before.before.before.before.if1.false) (rw (← is_decimal _ c.before.before.before.before.before.in-range.ensures, ← c.before.before.before.before.is-one-of.ensures) c.before.before.before.if2.false) c.before.before.if3.false c.before.if4.false c.symbol-token.ensures.0, c.symbol-token.ensures.1)
+returns-5 c = (law.by_symbol c.before.before.before.before.before.before.before.before.before.before.args.q.now c.before.before.before.before.before.before.before.before.before.before.args.s (sym c.before.before.before.before.before.before.before.is-letter.ensures ∙ c.before.before.before.before.before.before.if1.false) (rw (← is_decimal _ c.before.before.before.before.before.in-range.ensures, ← c.before.before.before.before.is-one-of.ensures) c.before.before.before.if2.false) c.before.before.if3.false c.before.if4.false c.symbol-token.ensures.0, c.symbol-token.ensures.1)
 
 pub longest-at-spec : {M : Type 1} → statement M
 longest-at-spec =

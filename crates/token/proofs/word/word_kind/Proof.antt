@@ -59,16 +59,16 @@ word-or-requires-9 : tie.Need-word-or-requires-9
 word-or-requires-9 c κs = search rules
 
 returns : tie.Need-returns
-returns c = c.word-or.ensures ∙ sym (law.of_two _ c.before.before.match.keys1)
+returns c = c.word-or.ensures ∙ sym (law.of_two_law _ c.before.before.match.keys1)
 
 returns-2 : tie.Need-returns-2
-returns-2 c = rw (c.word-or4.ensures, c.before.before.word-or3.ensures, c.before.before.before.before.word-or2.ensures) (sym (law.of_three _ c.before.before.before.before.before.before.match.keys2))
+returns-2 c = rw (c.word-or4.ensures, c.before.before.word-or3.ensures, c.before.before.before.before.word-or2.ensures) (sym (law.of_three_law _ c.before.before.before.before.before.before.match.keys2))
 
 returns-3 : tie.Need-returns-3
 returns-3 c = rw (c.word-or7.ensures, c.before.before.word-or6.ensures, c.before.before.before.before.word-or5.ensures) (sym (law.of_four _ c.before.before.before.before.before.before.match.keys3))
 
 returns-4 : tie.Need-returns-4
-returns-4 c = rw (c.word-or9.ensures, c.before.before.word-or8.ensures) (sym (law.of-five _ c.before.before.before.before.match.keys4))
+returns-4 c = rw (c.word-or9.ensures, c.before.before.word-or8.ensures) (sym (law.of_five _ c.before.before.before.before.match.keys4))
 
 returns-5 : tie.Need-returns-5
 returns-5 c = law.of_none _ c.match.rest

@@ -36,7 +36,7 @@ loop-less : tie.Need-loop-smaller invariant-loop decreases-loop
 loop-less c = search rules
 
 loop-again : tie.Need-loop-preserved invariant-loop decreases-loop
-loop-again c = search law.counted-block
+loop-again c = search law.counted_block
 
 add-next-2 : tie.Need-overflow-add-next-2 invariant-loop decreases-loop
 add-next-2 c = omega (arith, c.before.before.before.sequence-at.ensures, sequence_fits c.before.before.before.before.before.before.before.args.s.now c.before.before.before.before.before.loop.next)
@@ -48,10 +48,10 @@ loop-less-2 : tie.Need-loop-smaller-2 invariant-loop decreases-loop
 loop-less-2 c = search rules
 
 loop-again-2 : tie.Need-loop-preserved-2 invariant-loop decreases-loop
-loop-again-2 c = search law.counted-one
+loop-again-2 c = search law.counted_one
 
 returns-2 : tie.Need-returns-2 invariant-loop decreases-loop
-returns-2 c = search law.counted-end
+returns-2 c = search law.counted_end
 
 pub count-from-spec : {M : Type 1} → statement M
 count-from-spec =

@@ -4,13 +4,13 @@ use Rattle.unicode.proofs.count.is_block.Statement.{statement}
 use Rattle.unicode.proofs.count.is_block.Tie as tie
 
 returns : tie.Need-returns
-returns c = search law.block-short
+returns c = search law.block_short
 
 sub-if2 : tie.Need-overflow-sub-if2
 sub-if2 c = search rules
 
 returns-2 : tie.Need-returns-2
-returns-2 c = search law.block-short
+returns-2 c = search law.block_short
 
 all-ascii-requires : tie.Need-all-ascii-requires
 all-ascii-requires c κs = search rules

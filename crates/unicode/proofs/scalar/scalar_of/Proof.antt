@@ -5,7 +5,7 @@ use Rattle.unicode.proofs.scalar.scalar_of.Statement.{statement}
 use Rattle.unicode.proofs.scalar.scalar_of.Tie as tie
 
 returns : tie.Need-returns
-returns c = search law.scalar-none
+returns c = search law.scalar_none
 
 shared-slice-read-wide : tie.Need-shared-slice-read-wide
 shared-slice-read-wide c = search rules
@@ -14,7 +14,7 @@ wide-requires : tie.Need-wide-requires
 wide-requires c κs = search rules
 
 returns-2 : tie.Need-returns-2
-returns-2 c = rw c.before.wide.ensures.0 (law.scalar-one _ c.if2.true)
+returns-2 c = rw c.before.wide.ensures.0 (law.scalar_one _ c.if2.true)
 
 shared-slice-read-wide-2 : tie.Need-shared-slice-read-wide-2
 shared-slice-read-wide-2 c = search rules
@@ -29,7 +29,7 @@ add-result : tie.Need-overflow-add-result
 add-result c = search rules
 
 returns-3 : tie.Need-returns-3
-returns-3 c = rw (c.before.before.before.before.wide.ensures.0, c.before.wide2.ensures.0) (law.scalar-two _ c.if3.true)
+returns-3 c = rw (c.before.before.before.before.wide.ensures.0, c.before.wide2.ensures.0) (law.scalar_two _ c.if3.true)
 
 shared-slice-read-wide-3 : tie.Need-shared-slice-read-wide-3
 shared-slice-read-wide-3 c = search rules
@@ -50,7 +50,7 @@ add-result-3 : tie.Need-overflow-add-result-3
 add-result-3 c = search rules
 
 returns-4 : tie.Need-returns-4
-returns-4 c = rw (c.before.before.before.before.before.before.before.wide.ensures.0, c.before.before.before.before.wide2.ensures.0, c.before.wide3.ensures.0) (law.scalar-three _ c.if4.true)
+returns-4 c = rw (c.before.before.before.before.before.before.before.wide.ensures.0, c.before.before.before.before.wide2.ensures.0, c.before.wide3.ensures.0) (law.scalar_three _ c.if4.true)
 
 shared-slice-read-wide-4 : tie.Need-shared-slice-read-wide-4
 shared-slice-read-wide-4 c = search rules
@@ -77,7 +77,7 @@ add-result-6 : tie.Need-overflow-add-result-6
 add-result-6 c = search rules
 
 returns-5 : tie.Need-returns-5
-returns-5 c = rw (c.before.before.before.before.before.before.before.before.before.wide.ensures.0, c.before.before.before.before.before.before.wide2.ensures.0, c.before.before.before.wide3.ensures.0, c.wide4.ensures.0) (law.scalar-four _ (omega arith))
+returns-5 c = rw (c.before.before.before.before.before.before.before.before.before.wide.ensures.0, c.before.before.before.before.before.before.wide2.ensures.0, c.before.before.before.wide3.ensures.0, c.wide4.ensures.0) (law.scalar_four _ (omega arith))
 
 pub scalar-of-spec : {M : Type 1} → statement M
 scalar-of-spec =

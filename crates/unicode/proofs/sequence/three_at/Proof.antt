@@ -8,7 +8,7 @@ sub-if1 : tie.Need-overflow-sub-if1
 sub-if1 c = search rules
 
 returns : tie.Need-returns
-returns c = law.three-short _ _ c.before.before.requires.0 c.before.before.requires.1 c.before.before.requires.2 c.if1.true
+returns c = law.three_short _ _ c.before.before.requires.0 c.before.before.requires.1 c.before.before.requires.2 c.if1.true
 
 shared-slice-read-is-second : tie.Need-shared-slice-read-is-second
 shared-slice-read-is-second c = search rules
@@ -32,10 +32,10 @@ is-continuation-requires : tie.Need-is-continuation-requires
 is-continuation-requires c κs = search rules
 
 returns-2 : tie.Need-returns-2
-returns-2 c = law.three-by _ _ c.before.before.before.before.before.before.before.before.requires.0 c.before.before.before.before.before.before.before.before.requires.1 c.before.before.before.before.before.before.before.before.requires.2 c.before.before.before.before.before.before.if1.false {t = true} c.before.before.before.is-second.ensures c.before.is-continuation.ensures c.if2.true
+returns-2 c = law.three_by _ _ c.before.before.before.before.before.before.before.before.requires.0 c.before.before.before.before.before.before.before.before.requires.1 c.before.before.before.before.before.before.before.before.requires.2 c.before.before.before.before.before.before.if1.false {t = true} c.before.before.before.is-second.ensures c.before.is-continuation.ensures c.if2.true
 
 returns-3 : tie.Need-returns-3
-returns-3 c = law.three-by _ _ c.before.before.before.before.before.before.before.before.requires.0 c.before.before.before.before.before.before.before.before.requires.1 c.before.before.before.before.before.before.before.before.requires.2 c.before.before.before.before.before.before.if1.false {t = false} c.before.before.before.is-second.ensures c.before.is-continuation.ensures c.if2.false
+returns-3 c = law.three_by _ _ c.before.before.before.before.before.before.before.before.requires.0 c.before.before.before.before.before.before.before.before.requires.1 c.before.before.before.before.before.before.before.before.requires.2 c.before.before.before.before.before.before.if1.false {t = false} c.before.before.before.is-second.ensures c.before.is-continuation.ensures c.if2.false
 
 pub three-at-spec : {M : Type 1} → statement M
 three-at-spec =

@@ -15,7 +15,7 @@ sub-if2 : tie.Need-overflow-sub-if2
 sub-if2 c = search rules
 
 returns-2 : tie.Need-returns-2
-returns-2 c = law.two-short _ _ c.before.before.before.before.requires.0 c.before.before.before.before.requires.1 c.before.before.before.before.requires.2 c.if2.true
+returns-2 c = law.two_short _ _ c.before.before.before.before.requires.0 c.before.before.before.before.requires.1 c.before.before.before.before.requires.2 c.if2.true
 
 add-is-continuation : tie.Need-overflow-add-is-continuation
 add-is-continuation c = search rules
@@ -27,10 +27,10 @@ is-continuation-requires : tie.Need-is-continuation-requires
 is-continuation-requires c κs = search rules
 
 returns-3 : tie.Need-returns-3
-returns-3 c = law.two-by _ _ c.before.before.before.before.before.before.before.requires.0 c.before.before.before.before.before.before.before.requires.1 c.before.before.before.before.before.before.before.requires.2 c.before.before.before.before.if1.false c.before.before.before.if2.false {t = true} c.before.is-continuation.ensures c.if3.true
+returns-3 c = law.two_by _ _ c.before.before.before.before.before.before.before.requires.0 c.before.before.before.before.before.before.before.requires.1 c.before.before.before.before.before.before.before.requires.2 c.before.before.before.before.if1.false c.before.before.before.if2.false {t = true} c.before.is-continuation.ensures c.if3.true
 
 returns-4 : tie.Need-returns-4
-returns-4 c = law.two-by _ _ c.before.before.before.before.before.before.before.requires.0 c.before.before.before.before.before.before.before.requires.1 c.before.before.before.before.before.before.before.requires.2 c.before.before.before.before.if1.false c.before.before.before.if2.false {t = false} c.before.is-continuation.ensures c.if3.false
+returns-4 c = law.two_by _ _ c.before.before.before.before.before.before.before.requires.0 c.before.before.before.before.before.before.before.requires.1 c.before.before.before.before.before.before.before.requires.2 c.before.before.before.before.if1.false c.before.before.before.if2.false {t = false} c.before.is-continuation.ensures c.if3.false
 
 pub two-at-spec : {M : Type 1} → statement M
 two-at-spec =

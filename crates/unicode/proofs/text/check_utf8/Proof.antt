@@ -7,7 +7,7 @@ pass-ascii-requires : tie.Need-pass-ascii-requires
 pass-ascii-requires c κs = search rules
 
 returns : tie.Need-returns
-returns c = search law.ascii-found
+returns c = search law.ascii_found
 
 sub-rest : tie.Need-overflow-sub-rest
 sub-rest c = search rules
@@ -25,10 +25,10 @@ add-t9 : tie.Need-overflow-add-t9
 add-t9 c = search rules
 
 returns-2 : tie.Need-returns-2
-returns-2 c = search law.ill-formed-found
+returns-2 c = search law.ill_formed_found
 
 returns-3 : tie.Need-returns-3
-returns-3 c = search law.well-formed-found
+returns-3 c = search law.well_formed_found
 
 pub check-utf8-spec : {M : Type 1} → statement M
 check-utf8-spec =

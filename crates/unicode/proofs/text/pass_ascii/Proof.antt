@@ -22,7 +22,7 @@ all-ascii-requires : tie.Need-all-ascii-requires invariant-loop decreases-loop
 all-ascii-requires c κs = search rules
 
 returns : tie.Need-returns invariant-loop decreases-loop
-returns c = search law.ascii-stops
+returns c = search law.ascii_stops
 
 add-next : tie.Need-overflow-add-next invariant-loop decreases-loop
 add-next c = search rules
@@ -31,7 +31,7 @@ loop-less : tie.Need-loop-smaller invariant-loop decreases-loop
 loop-less c = search rules
 
 loop-again : tie.Need-loop-preserved invariant-loop decreases-loop
-loop-again c = (search rules, search law.ascii-next)
+loop-again c = (search rules, search law.ascii_next)
 
 sub-ends-ascii : tie.Need-overflow-sub-ends-ascii invariant-loop decreases-loop
 sub-ends-ascii c = search rules
@@ -40,10 +40,10 @@ ends-ascii-requires : tie.Need-ends-ascii-requires invariant-loop decreases-loop
 ends-ascii-requires c κs = search rules
 
 returns-2 : tie.Need-returns-2 invariant-loop decreases-loop
-returns-2 c = search law.ascii-ends
+returns-2 c = search law.ascii_ends
 
 returns-3 : tie.Need-returns-3 invariant-loop decreases-loop
-returns-3 c = search law.ascii-stops
+returns-3 c = search law.ascii_stops
 
 pub pass-ascii-spec : {M : Type 1} → statement M
 pass-ascii-spec =

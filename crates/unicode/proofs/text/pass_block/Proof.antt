@@ -20,13 +20,13 @@ add-result : tie.Need-overflow-add-result
 add-result c = search rules
 
 returns-2 : tie.Need-returns-2
-returns-2 c = law.block-passed _ _ _ 16 (omega arith) (omega arith) c.before.before.before.before.requires.1 c.before.all_IsAscii.ensures c.if2.true
+returns-2 c = law.block_passed _ _ _ 16 (omega arith) (omega arith) c.before.before.before.before.requires.1 c.before.all_IsAscii.ensures c.if2.true
 
 pass-whole-requires : tie.Need-pass-whole-requires
 pass-whole-requires c κs = search rules
 
 returns-3 : tie.Need-returns-3
-returns-3 c = search law.moved-passed
+returns-3 c = search law.moved_passed
 
 pass-sequences-requires-2 : tie.Need-pass-sequences-requires-2
 pass-sequences-requires-2 c κs = search rules
@@ -41,7 +41,7 @@ pass-sequences-requires-3 : tie.Need-pass-sequences-requires-3
 pass-sequences-requires-3 c κs = search rules
 
 returns-5 : tie.Need-returns-5
-returns-5 c = law.nearer-passed _ _ _ _ _ (omega arith) (omega arith) c.pass-sequences3.ensures
+returns-5 c = law.nearer_passed _ _ _ _ _ (omega arith) (omega arith) c.pass-sequences3.ensures
 
 pub pass-block-spec : {M : Type 1} → statement M
 pass-block-spec =

@@ -22,19 +22,19 @@ sub-if1 : tie.Need-overflow-sub-if1 invariant-loop decreases-loop
 sub-if1 c = search rules
 
 returns : tie.Need-returns invariant-loop decreases-loop
-returns c = search law.sequences-stop
+returns c = search law.sequences_stop
 
 add-next : tie.Need-overflow-add-next invariant-loop decreases-loop
-add-next c = let e = law.sequence-ends c.before.before.before.before.before.args.s.now c.before.before.before.before.before.args.at c.before.before.before.before.before.args.stop c.before.before.before.loop.next c.before.before.before.before.before.requires.0 c.before.before.before.loop.invariant.0 c.before.before.before.loop.invariant.1.0 c.before.before.before.loop.invariant.1.1 c.before.before.loop-test.true c.before.sequence-at.ensures c.if1.false in omega arith
+add-next c = let e = law.sequence_ends c.before.before.before.before.before.args.s.now c.before.before.before.before.before.args.at c.before.before.before.before.before.args.stop c.before.before.before.loop.next c.before.before.before.before.before.requires.0 c.before.before.before.loop.invariant.0 c.before.before.before.loop.invariant.1.0 c.before.before.before.loop.invariant.1.1 c.before.before.loop-test.true c.before.sequence-at.ensures c.if1.false in omega arith
 
 loop-less : tie.Need-loop-smaller invariant-loop decreases-loop
-loop-less c = let e = law.sequence-ends c.before.before.before.before.before.args.s.now c.before.before.before.before.before.args.at c.before.before.before.before.before.args.stop c.before.before.before.loop.next c.before.before.before.before.before.requires.0 c.before.before.before.loop.invariant.0 c.before.before.before.loop.invariant.1.0 c.before.before.before.loop.invariant.1.1 c.before.before.loop-test.true c.before.sequence-at.ensures c.if1.false in let z = law.sequence-some c.before.before.before.before.before.args.s.now c.before.before.before.before.before.args.at c.before.before.before.before.before.args.stop c.before.before.before.loop.next c.before.before.before.before.before.requires.0 c.before.before.before.loop.invariant.0 c.before.before.before.loop.invariant.1.0 c.before.before.before.loop.invariant.1.1 c.before.before.loop-test.true c.before.sequence-at.ensures c.if1.false in omega arith
+loop-less c = let e = law.sequence_ends c.before.before.before.before.before.args.s.now c.before.before.before.before.before.args.at c.before.before.before.before.before.args.stop c.before.before.before.loop.next c.before.before.before.before.before.requires.0 c.before.before.before.loop.invariant.0 c.before.before.before.loop.invariant.1.0 c.before.before.before.loop.invariant.1.1 c.before.before.loop-test.true c.before.sequence-at.ensures c.if1.false in let z = law.sequence_some c.before.before.before.before.before.args.s.now c.before.before.before.before.before.args.at c.before.before.before.before.before.args.stop c.before.before.before.loop.next c.before.before.before.before.before.requires.0 c.before.before.before.loop.invariant.0 c.before.before.before.loop.invariant.1.0 c.before.before.before.loop.invariant.1.1 c.before.before.loop-test.true c.before.sequence-at.ensures c.if1.false in omega arith
 
 loop-again : tie.Need-loop-preserved invariant-loop decreases-loop
-loop-again c = (search rules, (search law.sequence-ends, search law.sequences-more))
+loop-again c = (search rules, (search law.sequence_ends, search law.sequences_more))
 
 returns-2 : tie.Need-returns-2 invariant-loop decreases-loop
-returns-2 c = search law.sequences-end
+returns-2 c = search law.sequences_end
 
 pub pass-sequences-spec : {M : Type 1} → statement M
 pass-sequences-spec =

@@ -21,13 +21,13 @@ pass-block-requires : tie.Need-pass-block-requires invariant-loop decreases-loop
 pass-block-requires c κs = search rules
 
 returns : tie.Need-returns invariant-loop decreases-loop
-returns c = search law.walk-stays
+returns c = search law.walk_stays
 
 loop-less : tie.Need-loop-smaller invariant-loop decreases-loop
-loop-less c = search law.walk-moves
+loop-less c = search law.walk_moves
 
 loop-again : tie.Need-loop-preserved invariant-loop decreases-loop
-loop-again c = (search law.walk_begins, (search law.walk-within, search law.walk-next))
+loop-again c = (search law.walk_begins, (search law.walk_within, search law.walk_next))
 
 returns-2 : tie.Need-returns-2 invariant-loop decreases-loop
 returns-2 c = search law.walk_ends

@@ -20,7 +20,7 @@ is-continuation-requires : tie.Need-is-continuation-requires invariant-loop decr
 is-continuation-requires c κs = search rules
 
 returns : tie.Need-returns invariant-loop decreases-loop
-returns c = search law.start-found
+returns c = search law.start_found
 
 sub-start : tie.Need-overflow-sub-start invariant-loop decreases-loop
 sub-start c = search rules

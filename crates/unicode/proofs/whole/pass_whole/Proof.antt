@@ -10,7 +10,7 @@ is-continuation-requires : tie.Need-is-continuation-requires
 is-continuation-requires c κs = search rules
 
 returns : tie.Need-returns
-returns c = search law.whole-stays
+returns c = search law.whole_stays
 
 whole-blocks-requires : tie.Need-whole-blocks-requires
 whole-blocks-requires c κs = search rules
@@ -19,7 +19,7 @@ last-start-requires : tie.Need-last-start-requires
 last-start-requires c κs = search rules
 
 returns-2 : tie.Need-returns-2
-returns-2 c = search law.whole-moved
+returns-2 c = search law.whole_moved
 
 pub pass-whole-spec : {M : Type 1} → statement M
 pass-whole-spec =

@@ -30,7 +30,7 @@ loop-less : tie.Need-loop-smaller invariant-loop decreases-loop
 loop-less c = search rules
 
 loop-again : tie.Need-loop-preserved invariant-loop decreases-loop
-loop-again c = (law.whole-more _ _ _ c.before.before.loop.invariant.0 c.is_whole.ensures, search rules)
+loop-again c = (law.whole_more _ _ _ c.before.before.loop.invariant.0 c.is_whole.ensures, search rules)
 
 returns : tie.Need-returns invariant-loop decreases-loop
 returns c = let e : c.before.loop.i ≡ 16 = omega arith in rw e at c.before.loop.invariant.0

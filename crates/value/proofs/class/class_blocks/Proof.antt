@@ -30,7 +30,7 @@ class-block-requires : tie.Need-class-block-requires invariant-loop decreases-lo
 class-block-requires c κs = search rules
 
 returns : tie.Need-returns invariant-loop decreases-loop
-returns c = (search rules, search law.common-found)
+returns c = (search rules, search law.common_found)
 
 add-n : tie.Need-overflow-add-n invariant-loop decreases-loop
 add-n c = search rules
@@ -42,7 +42,7 @@ loop-again : tie.Need-loop-preserved invariant-loop decreases-loop
 loop-again c = (search rules, search law.block_more)
 
 returns-2 : tie.Need-returns-2 invariant-loop decreases-loop
-returns-2 c = (search rules, search law.common-found)
+returns-2 c = (search rules, search law.common_found)
 
 pub class-blocks-spec : {M : Type 1} → statement M
 class-blocks-spec =

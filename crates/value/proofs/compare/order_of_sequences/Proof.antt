@@ -7,7 +7,7 @@ same-sort-requires : tie.Need-same-sort-requires
 same-sort-requires c κs = search rules
 
 returns : tie.Need-returns
-returns c = search law.sorts-differ
+returns c = search law.sorts_differ
 
 piece-requires : tie.Need-piece-requires
 piece-requires c κs = search rules
@@ -22,7 +22,7 @@ equality-requires : tie.Need-equality-requires
 equality-requires c κs = search rules
 
 returns-2 : tie.Need-returns-2
-returns-2 c = search law.sorts-agree
+returns-2 c = search law.sorts_agree
 
 pub order-of-sequences-spec : {M : Type 1} → statement M
 order-of-sequences-spec =

@@ -47,7 +47,7 @@ unfolding item_value order_of_scalars
 returns-5 c = λ s. c.order-of-datetimes.ensures ∙ rw c.before.before.y.given.1
 
 returns-6 : tie.Need-returns-6
-returns-6 c = law.against-sequence _ _ law.plain-datetime _ c.enum-told5.given.1
+returns-6 c = law.against_sequence _ _ law.plain_datetime _ c.enum-told5.given.1
 
 pub order-with-datetime-spec : {M : Type 1} → statement M
 order-with-datetime-spec =

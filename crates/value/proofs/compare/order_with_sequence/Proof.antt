@@ -32,19 +32,19 @@ returns c = rw c.enum_told.given.1
 
 returns-2 : tie.Need-returns-2
 unfolding item_value
-returns-2 c = rw c.enum-told2.given.1 (law.listed_plain law.plain-truth _ _)
+returns-2 c = rw c.enum-told2.given.1 (law.listed_plain law.plain_truth _ _)
 
 returns-3 : tie.Need-returns-3
 unfolding item_value
-returns-3 c = rw c.enum-told3.given.1 (law.listed_plain law.plain-whole _ _)
+returns-3 c = rw c.enum-told3.given.1 (law.listed_plain law.plain_whole _ _)
 
 returns-4 : tie.Need-returns-4
 unfolding item_value
-returns-4 c = rw c.enum-told4.given.1 (law.listed_plain law.plain-real _ _)
+returns-4 c = rw c.enum-told4.given.1 (law.listed_plain law.plain_real _ _)
 
 returns-5 : tie.Need-returns-5
 unfolding item_value
-returns-5 c = rw c.enum-told5.given.1 (law.listed_plain law.plain-datetime _ _)
+returns-5 c = rw c.enum-told5.given.1 (law.listed_plain law.plain_datetime _ _)
 
 returns-6 : tie.Need-returns-6
 unfolding item_value

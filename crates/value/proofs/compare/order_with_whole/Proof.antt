@@ -47,7 +47,7 @@ unfolding item_value order_of_scalars
 returns-5 c = λ s. rw c.enum-told4.given.1
 
 returns-6 : tie.Need-returns-6
-returns-6 c = law.against-sequence _ _ law.plain-whole _ c.enum-told5.given.1
+returns-6 c = law.against_sequence _ _ law.plain_whole _ c.enum-told5.given.1
 
 pub order-with-whole-spec : {M : Type 1} → statement M
 order-with-whole-spec =

@@ -39,7 +39,7 @@ loop-less : tie.Need-loop-smaller invariant-loop decreases-loop
 loop-less c = search rules
 
 loop-again : tie.Need-loop-preserved invariant-loop decreases-loop
-loop-again c = (law.common-more plain_class _ _ _ _ _ c.before.before.before.before.loop.invariant.0 c.same-plain.ensures, search rules)
+loop-again c = (law.common_more plain_class _ _ _ _ _ c.before.before.before.before.loop.invariant.0 c.same-plain.ensures, search rules)
 
 returns : tie.Need-returns invariant-loop decreases-loop
 returns c = let e : c.before.loop.i ≡ 16 = omega arith in rw e at c.before.loop.invariant.0

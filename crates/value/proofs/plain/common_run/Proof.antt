@@ -38,7 +38,7 @@ same-plain-requires : tie.Need-same-plain-requires invariant-loop decreases-loop
 same-plain-requires c κs = search rules
 
 returns : tie.Need-returns invariant-loop decreases-loop
-returns c = search law.common-found
+returns c = search law.common_found
 
 add-n : tie.Need-overflow-add-n invariant-loop decreases-loop
 add-n c = search rules
@@ -50,7 +50,7 @@ loop-again : tie.Need-loop-preserved invariant-loop decreases-loop
 loop-again c = (search rules, search law.byte_more)
 
 returns-2 : tie.Need-returns-2 invariant-loop decreases-loop
-returns-2 c = search law.common-found
+returns-2 c = search law.common_found
 
 pub common-run-spec : {M : Type 1} → statement M
 common-run-spec =

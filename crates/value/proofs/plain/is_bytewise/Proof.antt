@@ -37,7 +37,7 @@ returns-5 : tie.Need-returns-5
 returns-5 c = search rules
 
 returns-6 : tie.Need-returns-6
-returns-6 c = search law.encoded-bytewise
+returns-6 c = search law.encoded_bytewise
 
 pub is-bytewise-spec : {M : Type 1} → statement M
 is-bytewise-spec =

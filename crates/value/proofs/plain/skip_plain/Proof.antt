@@ -10,7 +10,7 @@ is-bytewise-requires-2 : tie.Need-is-bytewise-requires-2
 is-bytewise-requires-2 c κs = search rules
 
 returns : tie.Need-returns
-returns c = search law.nothing-skipped
+returns c = search law.nothing_skipped
 
 byte-at-requires : tie.Need-byte-at-requires
 byte-at-requires c κs = search rules
@@ -19,7 +19,7 @@ is-plain-requires : tie.Need-is-plain-requires
 is-plain-requires c κs = search rules
 
 returns-2 : tie.Need-returns-2
-returns-2 c = search law.nothing-skipped
+returns-2 c = search law.nothing_skipped
 
 common-run-requires : tie.Need-common-run-requires
 common-run-requires c κs = search rules
@@ -34,7 +34,7 @@ other-plain-requires : tie.Need-other-plain-requires
 other-plain-requires c κs = search rules
 
 returns-3 : tie.Need-returns-3
-returns-3 c = search law.plain-differ
+returns-3 c = search law.plain_differ
 
 add-t14 : tie.Need-overflow-add-t14
 add-t14 c = search rules
@@ -43,7 +43,7 @@ add-t15 : tie.Need-overflow-add-t15
 add-t15 c = search rules
 
 returns-4 : tie.Need-returns-4
-returns-4 c = search law.plain-skipped
+returns-4 c = search law.plain_skipped
 
 pub skip-plain-spec : {M : Type 1} → statement M
 skip-plain-spec =

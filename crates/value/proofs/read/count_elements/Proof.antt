@@ -38,13 +38,13 @@ enum_told : tie.Need-enum-told invariant-loop decreases-loop
 enum_told c = search rules
 
 returns : tie.Need-returns invariant-loop decreases-loop
-returns c = search law.count-broken
+returns c = search law.count_broken
 
 enum-told-2 : tie.Need-enum-told-2 invariant-loop decreases-loop
 enum-told-2 c = search rules
 
 returns-2 : tie.Need-returns-2 invariant-loop decreases-loop
-returns-2 c = search law.count-end
+returns-2 c = search law.count_end
 
 pub count-elements-spec : {M : Type 1} → statement M
 count-elements-spec =

@@ -19,13 +19,13 @@ enum-told-2 : tie.Need-enum-told-2
 enum-told-2 c = search rules
 
 returns : tie.Need-returns
-returns c = search law.record-value
+returns c = search law.record_value
 
 returns-2 : tie.Need-returns-2
-returns-2 c = search law.record-broken
+returns-2 c = search law.record_broken
 
 returns-3 : tie.Need-returns-3
-returns-3 c = search law.record-missing
+returns-3 c = search law.record_missing
 
 pub item-at-spec : {M : Type 1} → statement M
 item-at-spec =

@@ -16,7 +16,7 @@ enum-known-y : tie.Need-enum-known-y
 enum-known-y c = search rules
 
 returns : tie.Need-returns
-returns c = search law.units-differ
+returns c = search law.units_differ
 
 enum_told : tie.Need-enum-told
 enum_told c = search rules
@@ -34,16 +34,16 @@ enum-told-4 : tie.Need-enum-told-4
 enum-told-4 c = search rules
 
 returns-2 : tie.Need-returns-2
-returns-2 c = (search law.units-next, search law.units-fewer)
+returns-2 c = (search law.units_next, search law.units_fewer)
 
 returns-3 : tie.Need-returns-3
-returns-3 c = search law.units-longer
+returns-3 c = search law.units_longer
 
 returns-4 : tie.Need-returns-4
-returns-4 c = search law.units-shorter
+returns-4 c = search law.units_shorter
 
 returns-5 : tie.Need-returns-5
-returns-5 c = search law.units-both-end
+returns-5 c = search law.units_both_end
 
 pub next-units-spec : {M : Type 1} → statement M
 next-units-spec =

@@ -23,7 +23,7 @@ enum_told : tie.Need-enum-told invariant-loop decreases-loop
 enum_told c = search rules
 
 returns : tie.Need-returns invariant-loop decreases-loop
-returns c = search law.skip-differ
+returns c = search law.skip_differ
 
 enum-known-first : tie.Need-enum-known-first invariant-loop decreases-loop
 enum-known-first c = search rules
@@ -35,16 +35,16 @@ enum-known-form : tie.Need-enum-known-form invariant-loop decreases-loop
 enum-known-form c = search rules
 
 loop-less : tie.Need-loop-smaller invariant-loop decreases-loop
-loop-less c = search law.pair-fewer
+loop-less c = search law.pair_fewer
 
 loop-again : tie.Need-loop-preserved invariant-loop decreases-loop
-loop-again c = search law.pair-next
+loop-again c = search law.pair_next
 
 enum-told-2 : tie.Need-enum-told-2 invariant-loop decreases-loop
 enum-told-2 c = search rules
 
 returns-2 : tie.Need-returns-2 invariant-loop decreases-loop
-returns-2 c = search law.pair-differ
+returns-2 c = search law.pair_differ
 
 enum-told-3 : tie.Need-enum-told-3 invariant-loop decreases-loop
 enum-told-3 c = search rules

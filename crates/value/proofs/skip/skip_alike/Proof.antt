@@ -13,7 +13,7 @@ class-run-requires : tie.Need-class-run-requires
 class-run-requires c κs = search rules
 
 returns : tie.Need-returns
-returns c = search law.bytes-skipped
+returns c = search law.bytes_skipped
 
 skip-characters-requires : tie.Need-skip-characters-requires
 skip-characters-requires c κs = search rules

@@ -7,7 +7,7 @@ byte-at-requires : tie.Need-byte-at-requires
 byte-at-requires c κs = search rules
 
 returns : tie.Need-returns
-returns c = search law.no-characters
+returns c = search law.no_characters
 
 is-characters-requires : tie.Need-is-characters-requires
 is-characters-requires c κs = search rules
@@ -16,7 +16,7 @@ is-characters-requires-2 : tie.Need-is-characters-requires-2
 is-characters-requires-2 c κs = search rules
 
 returns-2 : tie.Need-returns-2
-returns-2 c = search law.no-characters
+returns-2 c = search law.no_characters
 
 is-utf8-requires : tie.Need-is-utf8-requires
 is-utf8-requires c κs = search rules
@@ -31,7 +31,7 @@ same-in-requires : tie.Need-same-in-requires
 same-in-requires c κs = search rules
 
 returns-3 : tie.Need-returns-3
-returns-3 c = search law.no-characters
+returns-3 c = search law.no_characters
 
 class-run-requires : tie.Need-class-run-requires
 class-run-requires c κs = search rules
@@ -46,7 +46,7 @@ sub-result : tie.Need-overflow-sub-result
 sub-result c = search rules
 
 returns-4 : tie.Need-returns-4
-returns-4 c = search law.characters-skipped
+returns-4 c = search law.characters_skipped
 
 pub skip-characters-spec : {M : Type 1} → statement M
 skip-characters-spec =

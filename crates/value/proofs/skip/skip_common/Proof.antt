@@ -22,10 +22,10 @@ add-t13 : tie.Need-overflow-add-t13
 add-t13 c = search rules
 
 returns : tie.Need-returns
-returns c = search law.still-differ
+returns c = search law.still_differ
 
 returns-2 : tie.Need-returns-2
-returns-2 c = search law.skipped-further
+returns-2 c = search law.skipped_further
 
 pub skip-common-spec : {M : Type 1} → statement M
 skip-common-spec =

@@ -16,7 +16,7 @@ returns : tie.Need-returns
 returns c = search law.byte_next
 
 returns-2 : tie.Need-returns-2
-returns-2 c = search law.byte-end
+returns-2 c = search law.byte_end
 
 pub next-byte-spec : {M : Type 1} → statement M
 next-byte-spec =

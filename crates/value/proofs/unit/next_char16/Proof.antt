@@ -7,10 +7,10 @@ number-at-requires : tie.Need-number-at-requires
 number-at-requires c κs = search rules
 
 returns : tie.Need-returns
-returns c = search law.char16-next
+returns c = search law.char16_next
 
 returns-2 : tie.Need-returns-2
-returns-2 c = search law.char16-end
+returns-2 c = search law.char16_end
 
 pub next-char16-spec : {M : Type 1} → statement M
 next-char16-spec = tie.close (tie.spec number-at-requires returns returns-2)

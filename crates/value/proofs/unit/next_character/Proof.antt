@@ -8,7 +8,7 @@ sequence-at-requires : tie.Need-sequence-at-requires
 sequence-at-requires c κs = search rules
 
 returns : tie.Need-returns
-returns c = search law.character-end
+returns c = search law.character_end
 
 piece-requires : tie.Need-piece-requires
 piece-requires c κs = search rules
@@ -20,10 +20,10 @@ cast-t7 : tie.Need-overflow-cast-t7
 cast-t7 c = search rules
 
 add-t9 : tie.Need-overflow-add-t9
-add-t9 c = omega (arith, law.character-room _ _ _ c.before.before.before.sequence-at.ensures)
+add-t9 c = omega (arith, law.character_room _ _ _ c.before.before.before.sequence-at.ensures)
 
 returns-2 : tie.Need-returns-2
-returns-2 c = search law.character-next
+returns-2 c = search law.character_next
 
 pub next-character-spec : {M : Type 1} → statement M
 next-character-spec =

@@ -17,10 +17,10 @@ encoded-length-requires : tie.Need-encoded-length-requires
 encoded-length-requires c κs = search rules
 
 returns : tie.Need-returns
-returns c = search law.encoded-past
+returns c = search law.encoded_past
 
 encoded-byte-requires : tie.Need-encoded-byte-requires
-encoded-byte-requires c κs = ((moved c.before.before.before.before.before.char-in-string.ensures.1 c.before.before.before.c.given.1).2, search law.encoded-here)
+encoded-byte-requires c κs = ((moved c.before.before.before.before.before.char-in-string.ensures.1 c.before.before.before.c.given.1).2, search law.encoded_here)
 
 add-if2 : tie.Need-overflow-add-if2
 add-if2 c = search rules
@@ -29,7 +29,7 @@ add-t13 : tie.Need-overflow-add-t13
 add-t13 c = search rules
 
 returns-2 : tie.Need-returns-2
-returns-2 c = search law.encoded-more
+returns-2 c = search law.encoded_more
 
 enum_told : tie.Need-enum-told
 enum_told c = search rules
@@ -38,13 +38,13 @@ enum-told-2 : tie.Need-enum-told-2
 enum-told-2 c = search rules
 
 returns-3 : tie.Need-returns-3
-returns-3 c = search law.encoded-last
+returns-3 c = search law.encoded_last
 
 returns-4 : tie.Need-returns-4
-returns-4 c = search law.encoded-close
+returns-4 c = search law.encoded_close
 
 returns-5 : tie.Need-returns-5
-returns-5 c = search law.encoded-bad
+returns-5 c = search law.encoded_bad
 
 pub next-encoded-spec : {M : Type 1} → statement M
 next-encoded-spec =

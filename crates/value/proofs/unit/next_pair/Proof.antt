@@ -10,7 +10,7 @@ sub-if2 : tie.Need-overflow-sub-if2
 sub-if2 c = search rules
 
 returns-2 : tie.Need-returns-2
-returns-2 c = search law.pair-half
+returns-2 c = search law.pair_half
 
 shared-slice-read-digit-of : tie.Need-shared-slice-read-digit-of
 shared-slice-read-digit-of c = search rules
@@ -37,7 +37,7 @@ add-t7 : tie.Need-overflow-add-t7
 add-t7 c = search rules
 
 returns-3 : tie.Need-returns-3
-returns-3 c = search law.pair-next
+returns-3 c = search law.pair_next
 
 pub next-pair-spec : {M : Type 1} → statement M
 next-pair-spec =

@@ -19,13 +19,13 @@ enum-told-2 : tie.Need-enum-told-2
 enum-told-2 c = search rules
 
 returns : tie.Need-returns
-returns c = search law.quoted-next
+returns c = search law.quoted_next
 
 returns-2 : tie.Need-returns-2
-returns-2 c = search law.quoted-close
+returns-2 c = search law.quoted_close
 
 returns-3 : tie.Need-returns-3
-returns-3 c = search law.quoted-bad
+returns-3 c = search law.quoted_bad
 
 pub next-quoted-spec : {M : Type 1} → statement M
 next-quoted-spec =

@@ -30,7 +30,7 @@ same_length : tie.Need-same-length invariant-loop decreases-loop
 same_length c = search rules
 
 returns : tie.Need-returns invariant-loop decreases-loop
-returns c = law.copied-over _ _ _ _ c.before.before.before.before.before.loop.invariant.0 c.before.before.before.before.before.loop.invariant.2 _ _ (next_character _ _ c.before.before.before.before.char-in-string.ensures.0 _ _ c.before.before.v.given.1) c.before.before.before.before.before.loop.invariant.1 (omega arith)
+returns c = law.copied_over _ _ _ _ c.before.before.before.before.before.loop.invariant.0 c.before.before.before.before.before.loop.invariant.2 _ _ (next_character _ _ c.before.before.before.before.char-in-string.ensures.0 _ _ c.before.before.v.given.1) c.before.before.before.before.before.loop.invariant.1 (omega arith)
 
 same-length-2 : tie.Need-same-length-2 invariant-loop decreases-loop
 same-length-2 c = search rules

@@ -25,7 +25,7 @@ enum_told : tie.Need-enum-told
 enum_told c = search rules
 
 returns : tie.Need-returns
-returns c = search law.copied-read
+returns c = search law.copied_read
 
 returns-2 : tie.Need-returns-2
 returns-2 c = search law.copied_none

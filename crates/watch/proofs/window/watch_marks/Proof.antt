@@ -24,31 +24,31 @@ window-mark-requires : tie.Need-window-mark-requires invariant-loop decreases-lo
 window-mark-requires c κs = search rules
 
 moved-before-requires : tie.Need-moved-before-requires invariant-loop decreases-loop
-moved-before-requires c κs = (search law.passing-room, search rules, search law.passing-window)
+moved-before-requires c κs = (search law.passing_room, search rules, search law.passing_window)
 
 slice-write-marks : tie.Need-slice-write-marks invariant-loop decreases-loop
-slice-write-marks c = search law.passing-room
+slice-write-marks c = search law.passing_room
 
 one-of-requires : tie.Need-one-of-requires invariant-loop decreases-loop
 one-of-requires c κs = search rules
 
 add-ones : tie.Need-overflow-add-ones invariant-loop decreases-loop
-add-ones c = let m = law.passing-fits _ _ _ _ _ _ _ _ c.before.before.before.before.before.loop.invariant c.before.before.before.before.loop-test.true c.before.before.before.window-mark.result c.one_of_lem.ensures in omega arith
+add-ones c = let m = law.passing_fits _ _ _ _ _ _ _ _ c.before.before.before.before.before.loop.invariant c.before.before.before.before.loop-test.true c.before.before.before.window-mark.result c.one_of_lem.ensures in omega arith
 
 loop-less : tie.Need-loop-smaller invariant-loop decreases-loop
 loop-less c = search rules
 
 loop-again : tie.Need-loop-preserved invariant-loop decreases-loop
-loop-again c = search law.passing-next
+loop-again c = search law.passing_next
 
 sub-t16 : tie.Need-overflow-sub-t16 invariant-loop decreases-loop
-sub-t16 c = let m = law.passing-most _ _ _ _ _ _ _ _ c.before.loop.invariant in omega arith
+sub-t16 c = let m = law.passing_most _ _ _ _ _ _ _ _ c.before.loop.invariant in omega arith
 
 same_length : tie.Need-same-length invariant-loop decreases-loop
-same_length c = search law.passing-same
+same_length c = search law.passing_same
 
 returns : tie.Need-returns invariant-loop decreases-loop
-returns c = (search law.passing-totals, search law.passing-marks, search law.passing-same)
+returns c = (search law.passing_totals, search law.passing_marks, search law.passing_same)
 
 pub watch-marks-spec : {M : Type 1} → statement M
 watch-marks-spec =

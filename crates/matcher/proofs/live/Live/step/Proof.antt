@@ -57,7 +57,7 @@ same-length-2 : tie.Need-same-length-2
 same-length-2 c = search rules
 
 returns-3 : tie.Need-returns-3
-returns-3 c = (law.gathered _ c.before.before.before.before.before.before.before.before.before.before.requires.1 _ _ _ c.before.before.before.before.before.before.before.before.before.before.requires.2.room c.gather.ensures, law.recalls-more _ c.before.before.before.before.before.before.before.before.before.before.requires.1 _ _ _ c.before.before.before.before.before.before.before.before.before.before.requires.2.room c.gather.ensures)
+returns-3 c = (law.gathered _ c.before.before.before.before.before.before.before.before.before.before.requires.1 _ _ _ c.before.before.before.before.before.before.before.before.before.before.requires.2.room c.gather.ensures, law.recalls_more _ c.before.before.before.before.before.before.before.before.before.before.requires.1 _ _ _ c.before.before.before.before.before.before.before.before.before.before.requires.2.room c.gather.ensures)
 
 pub step_spec : {M : Type 1} → statement M
 step_spec =
