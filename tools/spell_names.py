@@ -27,6 +27,11 @@ CLAUSE = re.compile(r"(?:requires|ensures)\s*\*?\s*(?:\w+\s*)?\{|ghost\s*(?:\w+\
 GHOST_USE = re.compile(r"ghost\s+use\b[^;]*;")
 ALIAS = re.compile(r"(?m)^use (?:\S+\.)?([^\s.]+) as (\S+)$")
 MADE = re.compile(r"(Tie|Reads|Kinds|Lts\S*|Statement|Code|TheVariants)$")
+# fields of records, which stand behind a variable
+FIELDS = set(
+    "after-point after-sign before-point body-small first-day first-month first-stop first-within from-set good-table groupAnds groupOrs kind-small"
+    " last-month other-closed second-stop second-within too-few too-long within-left within-right".split()
+)
 FENCE = re.compile(r"^```[^\n]*\n(.*?)^```$", re.S | re.M)
 
 
@@ -73,7 +78,7 @@ def table():
 
 class Speller:
     def __init__(self, rows):
-        self.modules = set()
+        self.modules, self.fields = set(), FIELDS & {it[0] for it in rows}
         self.all = {old: new for old, new, where in rows if where == "all"}
         self.proofs = {**self.all, **{old: new for old, new, where in rows if where == "proofs"}}
 
@@ -82,7 +87,7 @@ class Speller:
             word = m[0]
             if is_proof and text[m.start() - 1 : m.start()] == ".":
                 head = re.search(rf"({WORD})\.$", text[max(0, m.start() - 200) : m.start()])
-                if head and not head[1][0].isupper() and head[1] not in self.modules:
+                if head and not head[1][0].isupper() and head[1] not in self.modules and word not in self.fields:
                     return word
             bare = word.rstrip("'′")
             return names.get(word) or (names[bare] + word[len(bare) :] if bare in names else word)

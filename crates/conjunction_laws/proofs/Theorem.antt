@@ -90,7 +90,7 @@ module _ (q p table : List ℕ) (first : check q table ≡ Accepted) (second : c
     of_both =
         record {
           count = of_first.count;
-          good_table = of_first.good-table;
+          good_table = of_first.good_table;
           short = limits.1;
           encoded = text_encoded written;
           list = written.list;

@@ -103,7 +103,7 @@ date_in_year d h =
     let q = and_both (leb d.month 12) _ p.1 in
     let r = and_both (leb 1 d.day) _ q.1 in
     let l = leb-true d.day (days_in_month (leap_year d.year) d.month) r.1 in
-    rw (add-one d.year) (omega (arith, month_ends (leap_year d.year) d.month b.last-month))
+    rw (add-one d.year) (omega (arith, month_ends (leap_year d.year) d.month b.last_month))
 
 pub record TimeBounds (t : Time) : Type 0 where
   pub hours : t.hour ≤ 23

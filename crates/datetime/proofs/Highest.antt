@@ -87,10 +87,10 @@ module _ (k : ℕ) (s : List ℕ) (few : k ≤ 21) (said : says_to k s ≡ true)
       year_kept d full = number_known k d s few text_long full 0 4 (omega arith)
 
       pub month_from : 1 ≤ (date_in s).month
-      month_from = rw (← month_kept (lowest_digits false) refl) lowest_date.first-month
+      month_from = rw (← month_kept (lowest_digits false) refl) lowest_date.first_month
 
       pub month_to : (date_in s).month ≤ 12
-      month_to = rw (← month_kept (lowest_digits false) refl) lowest_date.last-month
+      month_to = rw (← month_kept (lowest_digits false) refl) lowest_date.last_month
 
     -- the month of the last day
     by_last_day : (P : ℕ → Type 0) → ((leap : Bool) (m : ℕ) → 1 ≤ m → m ≤ 12 → P (days_in_month leap m)) → P (last_day k s)

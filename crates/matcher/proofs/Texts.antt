@@ -163,7 +163,7 @@ module _ (p : List ℕ) (whole : Fragment) (links : List ℕ) (tables : Linked (
                   ∙ next_decides;
               counted = omega (arith, here.counted, ap length next_characters);
               fewer = omega (arith, here.fewer, z);
-              ready = ready_begun next some-live (k.keeps.from-set some-live);
+              ready = ready_begun next some-live (k.keeps.from_set some-live);
               kept = k.keeps;
             }
 

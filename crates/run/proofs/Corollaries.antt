@@ -58,7 +58,7 @@ totals_sum q t run = sum_of (answers_of q t run) ∙ answers_length q t run
 module _ (s : List ℕ) (b : Bytes s) where
   first_short : (at kind start len next : ℕ) → record_at s at ≡ Whole kind start len next → (rest : List (List ℕ)) → ((i : ℕ) → length (get_or rest i []) ≤ 65535)
       → (i : ℕ) → length (get_or (part s start len ∷ rest) i []) ≤ 65535
-  first_short at kind start len next e rest f zero = let w = whole_small s at kind start len next b e in omega (arith, w.body-small, part_short s start len)
+  first_short at kind start len next e rest f zero = let w = whole_small s at kind start len next b e in omega (arith, w.body_small, part_short s start len)
   first_short at kind start len next e rest f (suc i) = f i
 
   short_from : (n at : ℕ) → length s - at < n → (i : ℕ) → length (get_or (bodies_of s (records s at)) i []) ≤ 65535

@@ -209,7 +209,7 @@ module _ (v : Comparison → Bool) (n : Comparison → ℕ) where
 
   -- of what the chains have come to, nothing is left to count
   pub rest_of : State → Tree → Told
-  rest_of s t = rest (known s.ors) (known s.ands) (known s.groupOrs) (known s.groupAnds) t
+  rest_of s t = rest (known s.ors) (known s.ands) (known s.group_ors) (known s.group_ands) t
 
   -- where a chain is decided, nothing of it counts
   module _ (c : Comparison) where
@@ -257,17 +257,17 @@ module _ (v : Comparison → Bool) (n : Comparison → ℕ) where
     -- the last comparison, and one that others follow
     pub rest_last : (s : State) → rest_of s (one (one (one (one c)))) ≡ add (steps_if (live s) (n c)) (known (total s (live s && v c)))
     unfolding rest_of fold₁ fold
-    rest_last s = all_so_far s.ors s.ands s.groupOrs s.groupAnds
+    rest_last s = all_so_far s.ors s.ands s.group_ors s.group_ands
 
     pub rest_more : (s : State) (j : Join) (t : Tree) → last_join j ≡ false → rest_of s (join c j t) ≡ add (steps_if (live s) (n c)) (rest_of (step j s (live s && v c)) t)
     unfolding rest_of step
     rest_more s Last t e = let z : ◌≡◌ {A = ℕ} 0 1 = cc in absurd (omega arith)
-    rest_more s (Inner And) t e = one_and _ _ _ _ c t ∙ after_and s.ors s.ands s.groupOrs s.groupAnds t
-    rest_more s (Inner Or) t e = one_or _ _ _ _ c t ∙ after_or s.ors s.ands s.groupOrs s.groupAnds t
-    rest_more s (Outer And) t e = group_and _ _ _ _ c t ∙ after_group_and s.ors s.ands s.groupOrs s.groupAnds t
+    rest_more s (Inner And) t e = one_and _ _ _ _ c t ∙ after_and s.ors s.ands s.group_ors s.group_ands t
+    rest_more s (Inner Or) t e = one_or _ _ _ _ c t ∙ after_or s.ors s.ands s.group_ors s.group_ands t
+    rest_more s (Outer And) t e = group_and _ _ _ _ c t ∙ after_group_and s.ors s.ands s.group_ors s.group_ands t
     rest_more s (Outer Or) t e =
         group_or _ _ _ _ c t
-        ∙ ap (λ (x : Told). rest x (known true) (known false) (known true) t) (all_so_far s.ors s.ands s.groupOrs s.groupAnds)
+        ∙ ap (λ (x : Told). rest x (known true) (known false) (known true) t) (all_so_far s.ors s.ands s.group_ors s.group_ands)
         ∙ either_add (steps_if (live s) (n c)) (known (total s (live s && v c))) _
 
   -- before the first comparison all of the tree is left

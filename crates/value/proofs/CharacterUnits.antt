@@ -93,8 +93,8 @@ module _ (c : Class) (f : Form) (a : List ℕ) (at : ℕ) (g : Form) (b : List �
   unfolding same_bytes
   one_onward i z h =
       let l : i < n = omega arith in
-      let x : at + i + sequence_at a (at + i) ≤ length a = omega (arith, run.within-left) in
-      let y : beside + i + sequence_at a (at + i) ≤ length b = omega (arith, run.within-right) in
+      let x : at + i + sequence_at a (at + i) ≤ length a = omega (arith, run.within_left) in
+      let y : beside + i + sequence_at a (at + i) ≤ length b = omega (arith, run.within_right) in
       let p = and_both (is_in c (byte_at a (at + i))) (eqb (byte_at a (at + i)) (byte_at b (beside + i))) (common_at c a at b beside n i run.common l) in
       let same = part_same a (at + i) b (beside + i) (sequence_at a (at + i)) x y (λ m o. moved m (omega arith)) in
       let s = same_sequence a (at + i) b (beside + i) same z in
@@ -145,9 +145,9 @@ module _ (f : Form) (a : List ℕ) (at : ℕ) (g : Form) (b : List ℕ) (beside 
       let both = and_both l r test in
       let c : Class = record { any = true; high = 0xEE } in
       record {
-        within_left = run.within-left;
-        within_right = run.within-right;
-        onward = common_onward c f a at g b beside (bytes_units c f (sym lefts ∙ both.0)) (bytes_units c g (sym rights ∙ both.1)) n run.within-left run.within-right run.common;
+        within_left = run.within_left;
+        within_right = run.within_right;
+        onward = common_onward c f a at g b beside (bytes_units c f (sym lefts ∙ both.0)) (bytes_units c g (sym rights ∙ both.1)) n run.within_left run.within_right run.common;
       }
 
   module _ {l r : Bool} (lefts : l ≡ is_characters f) (rights : r ≡ is_characters g) (test : not (l && r) ≡ false) {x y : Bool} (utf8-left : x ≡ is_utf8 f) (utf8-right : y ≡ is_utf8 g) {n : ℕ}
@@ -158,8 +158,8 @@ module _ (f : Form) (a : List ℕ) (at : ℕ) (g : Form) (b : List ℕ) (beside 
         let u = both_characters f g (sym lefts ∙ both.0) (sym rights ∙ both.1) (x && y) (rw (← utf8-left, ← utf8-right)) in
         let few : k - at ≤ n = omega (arith, walk.ends) in
         record {
-          within_left = omega (arith, run.within-left);
-          within_right = omega (arith, run.within-right);
+          within_left = omega (arith, run.within_left);
+          within_right = omega (arith, run.within_right);
           onward = reached_onward (record { any = x && y; high = 0xEE }) f a at g b beside u.0 u.1 run walk.reaches (k - at) (omega (arith, walk.begins)) few;
         }
 

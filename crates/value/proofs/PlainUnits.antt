@@ -166,7 +166,7 @@ module _ (f : Form) (a : List ℕ) (at : ℕ) (g : Form) (b : List ℕ) (beside 
 
     pub plain_skipped : Skips f a at g b beside (Past (at + n) (beside + n))
     plain_skipped =
-        common_onward plain_class f a at g b beside (λ s i k h. plain_unit s i h f left_is) (λ s i k h. plain_unit s i h g right_is) n run.within-left run.within-right run.common
+        common_onward plain_class f a at g b beside (λ s i k h. plain_unit s i h f left_is) (λ s i k h. plain_unit s i h g right_is) n run.within_left run.within_right run.common
 
     pub plain_differ : {d : Bool} → d ≡ other_plain (byte_at a (at + n)) (byte_at b (beside + n)) → d ≡ true → Skips f a at g b beside Differ
     plain_differ e h = sym (plain_skipped.same ∙ two_differ f a (at + n) g b (beside + n) left_is right_is (sym e ∙ h))

@@ -14,7 +14,7 @@ is-leap-year-requires : tie.Need-is-leap-year-requires
 is-leap-year-requires c κs = search rules
 
 days-before-month-requires : tie.Need-days-before-month-requires
-days-before-month-requires c κs = let b = date_bounds c.before.before.args.d c.before.before.requires.0 in (b.first-month, b.last-month)
+days-before-month-requires c κs = let b = date_bounds c.before.before.args.d c.before.before.requires.0 in (b.first_month, b.last_month)
 
 add-result : tie.Need-overflow-add-result
 add-result c = search rules
