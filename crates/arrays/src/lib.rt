@@ -1,5 +1,6 @@
 // Whole arrays: of an instance, or an array literal's on the right.
 #![tactic(auto)]
+
 ghost use Rattle.std.specs.Prelude.{◌≡◌};
 ghost use Rattle.std.proofs.Math.Option.{some};
 ghost use Rattle.base.specs.Order.{holds};

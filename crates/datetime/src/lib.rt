@@ -1,5 +1,6 @@
 // Datetimes of 01, "Datetime (DSP0004)", with the unknown digits of 02 Q-6: the moments of a timestamp, the lengths of an interval, and their order.
 #![tactic(auto)]
+
 pub mod calendar;
 pub mod days_before;
 pub mod exact;

@@ -1,5 +1,6 @@
 // The text at a fault: the part of the query or of the table that a refusal's place points at, lent on and not copied.
 #![tactic(auto)]
+
 ghost use Rattle.std.specs.Prelude.{◌≡◌};
 ghost use Rattle.fault_text.specs.FaultText.{shows_table, shows_query, unless_past, shown_of, fault_text};
 

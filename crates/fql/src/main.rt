@@ -1,6 +1,7 @@
 // The program: it reads the files `table`, `query` and `run` of the folder that it is started in, and writes a line for each instance of the run and one with the
 // totals, or the one line of a refused call. What it writes is `report`'s output; here is only the reading and the writing.
 #![tactic(auto)]
+
 ghost use Rattle.std.specs.Prelude.{◌≤◌, length};
 ghost use Rattle.io.specs.Counts.{IsPrefixLen};
 

@@ -1,5 +1,6 @@
 // C functions over the engine, for agents; include/fql.h declares them. A slice is lent as a pointer and a length.
 #![tactic(auto)]
+
 ghost use Rattle.std.specs.Prelude.{◌≡◌, length};
 ghost use Rattle.filter.specs.Check as Check;
 ghost use Rattle.filter.specs.Evaluate as Evaluate;

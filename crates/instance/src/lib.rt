@@ -1,5 +1,6 @@
 // Instances: whether one conforms to a table, and where each property's record starts.
 #![tactic(auto)]
+
 pub mod array;
 pub mod body;
 pub mod conform;

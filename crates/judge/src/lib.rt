@@ -1,5 +1,6 @@
 // One comparison, judged over an instance: its failure, or its truth and steps. It reads its parts where they stand, in the query, the table and the instance.
 #![tactic(auto)]
+
 pub mod left;
 pub mod meet;
 pub mod property;

@@ -1,5 +1,6 @@
 // LIKE.
 #![tactic(auto)]
+
 ghost use Rattle.std.specs.Prelude.{◌+◌, ◌<◌, ◌≡◌, false};
 ghost use Rattle.std.proofs.Math.Option.{some};
 ghost use Rattle.instance.specs.Value.{scalar_in};

@@ -1,5 +1,6 @@
 // Literals: what a token stands for.
 #![tactic(auto)]
+
 pub mod integer;
 pub mod real_literal;
 pub mod sort;

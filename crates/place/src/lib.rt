@@ -1,5 +1,6 @@
 // Where the values of a comparison stand: in records, in array bodies, in the query; and NOT, for the forms that take it.
 #![tactic(auto)]
+
 pub mod negation;
 
 ghost use Rattle.std.specs.Prelude.{◌≡◌};

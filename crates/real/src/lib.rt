@@ -1,5 +1,6 @@
 // Reals: a literal's value by one rounded operation, a value from its bytes, and their order by IEEE 754.
 #![tactic(auto)]
+
 pub mod bits;
 pub mod literal;
 pub mod order;

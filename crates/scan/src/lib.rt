@@ -1,5 +1,6 @@
 // Runs of bytes of one class in a query's text.
 #![tactic(auto)]
+
 ghost use Rattle.std.specs.Prelude.{◌≡◌, ℕ, ◌-◌, ◌≤◌, length};
 ghost use Rattle.scan.specs.Class.{white, in_class, run};
 

@@ -1,5 +1,6 @@
 // ANY and EVERY.
 #![tactic(auto)]
+
 ghost use Rattle.std.specs.Prelude.{◌≡◌, false, not};
 ghost use Rattle.std.proofs.Math.Option.{some};
 ghost use Rattle.value.specs.Item.{item_value};

@@ -1,5 +1,6 @@
 // AND before OR, from left to right, with the rest of a chain skipped once it is decided.
 #![tactic(auto)]
+
 ghost use Rattle.std.specs.Prelude.{◌≡◌};
 ghost use Rattle.query_text.specs.Tree.{live, total, step};
 ghost use Rattle.short_circuit.specs.Walk.{state_of, initial};

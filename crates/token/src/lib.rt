@@ -1,5 +1,6 @@
 // The tokens of a query, each the longest that fits.
 #![tactic(auto)]
+
 pub mod first;
 pub mod literals;
 pub mod longest;

@@ -1,5 +1,6 @@
 // Values of instances, read from their bytes, and their comparison.
 #![tactic(auto)]
+
 pub mod class;
 pub mod compare;
 pub mod item;

@@ -1,5 +1,6 @@
 // Literals of a query as values.
 #![tactic(auto)]
+
 pub mod datetime_text;
 
 ghost use Rattle.std.specs.Prelude.{◌≡◌, ◌-◌, length};

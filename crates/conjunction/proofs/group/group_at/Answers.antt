@@ -1,0 +1,6 @@
+use Rattle.conjunction.proofs.Reading as law
+use borrow.Author.Rules.{rules}
+use Rattle.conjunction.proofs.group.group_at.Goals as goal
+
+pub returns : goal.returns
+returns c = search law.group_made

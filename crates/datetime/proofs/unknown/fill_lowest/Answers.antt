@@ -1,0 +1,9 @@
+use Rattle.datetime.proofs.Stars as law
+use borrow.Author.Rules.{rules}
+use Rattle.datetime.proofs.unknown.fill_lowest.Goals as goal
+
+pub returns-then-s-eq58 : goal.returns-then-s-eq58
+returns-then-s-eq58 c = law.lowest_interval _ _ c.if1.true c.fill.ensures
+
+pub returns-else-s-eq58 : goal.returns-else-s-eq58
+returns-else-s-eq58 c = law.lowest_timestamp _ _ c.if1.false c.fill-else-s-eq58.ensures

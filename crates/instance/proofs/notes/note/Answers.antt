@@ -1,0 +1,7 @@
+use lib.Seq.{set_out}
+use mathlib.Core.Path.{sym}
+use borrow.Author.Rules.{rules}
+use Rattle.instance.proofs.notes.note.Goals as goal
+
+pub returns-else-number-notes : goal.returns-else-number-notes
+returns-else-number-notes c = sym (set_out c.args.notes.now _ _ c.if-number-notes.false)

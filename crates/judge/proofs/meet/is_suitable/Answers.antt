@@ -1,0 +1,6 @@
+use Rattle.judge.proofs.Meeting as law
+use borrow.Author.Rules.{rules}
+use Rattle.judge.proofs.meet.is_suitable.Goals as goal
+
+pub returns : goal.returns
+returns c = search law.suits_by

@@ -1,0 +1,10 @@
+use borrow.Author.Rules.{rules}
+use Rattle.pattern.proofs.Linking as law
+use Rattle.pattern.proofs.Linking.{Linking}
+use Rattle.pattern.proofs.links.link.Given as goal
+
+abbrev pub invariant-loop-left : goal.invariant-loop-left
+invariant-loop-left l = Linking l.first l.initial.links l.last l.left l.links
+
+abbrev pub decreases-loop-left : goal.decreases-loop-left
+decreases-loop-left l = l.left

@@ -1,0 +1,6 @@
+use Rattle.report.proofs.Laws as law
+use borrow.Author.Rules.{rules}
+use Rattle.report.proofs.line.write_totals.Goals as goal
+
+pub returns : goal.returns
+returns c = search law.totals_written

@@ -1,0 +1,16 @@
+use borrow.Author.Rules.{rules}
+use Prim.Native.Nat.{◌-◌}
+use mathlib.Core.Path.{◌≡◌}
+use native.Mathlib.Omega.{arith}
+use lib.ListN.{length}
+use Rattle.record.proofs.Reach as reach
+use Rattle.run.specs.Totals.{answers_of}
+use Rattle.report.proofs.Writing as law
+use Rattle.report.proofs.Writing.{Writing, answers_at}
+use Rattle.report.proofs.output.write_answers.Given as goal
+
+abbrev pub invariant-loop-start : goal.invariant-loop-start
+invariant-loop-start l = Writing (answers_of l.table l.run l.opened) l.query l.out l.place l.count l.totals (answers_at l.table l.run l.opened l.at) × (length l.notes ≡ 128)
+
+abbrev pub decreases-loop-start : goal.decreases-loop-start
+decreases-loop-start l = length l.opened - l.at

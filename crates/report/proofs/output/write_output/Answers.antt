@@ -1,0 +1,15 @@
+use native.Mathlib.Omega.{arith}
+use Rattle.filter.proofs.Laws as filter
+use Rattle.report.proofs.Fits as fits
+use Rattle.report.proofs.Writing as law
+use borrow.Author.Rules.{rules}
+use Rattle.report.proofs.output.write_output.Goals as goal
+
+pub write_run-requires : goal.write_run-requires
+write_run-requires c = search filter.accepts
+
+pub returns-in-Refused : goal.returns-in-Refused
+returns-in-Refused c = (search law.refused_written, fits.refused_fits _ _ _ c.check.ensures c.in-Refused.is (search rules) (omega arith))
+
+pub returns-in-Accepted : goal.returns-in-Accepted
+returns-in-Accepted c = (search law.accepted_written, search fits.accepted_fits)

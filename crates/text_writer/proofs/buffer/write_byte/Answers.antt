@@ -1,0 +1,6 @@
+use Rattle.text_writer.proofs.Written as law
+use borrow.Author.Rules.{rules}
+use Rattle.text_writer.proofs.buffer.write_byte.Goals as goal
+
+pub returns : goal.returns
+returns c = search law.written_past

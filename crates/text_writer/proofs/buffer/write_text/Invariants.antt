@@ -1,0 +1,13 @@
+use borrow.Author.Rules.{rules}
+use Prim.Native.Nat.{◌-◌}
+use lib.ListN.{length, take}
+use borrow.Author.Rules.{rules}
+use Rattle.text_writer.specs.Written.{Written}
+use Rattle.text_writer.proofs.Written as law
+use Rattle.text_writer.proofs.buffer.write_text.Given as goal
+
+abbrev pub invariant-loop-i : goal.invariant-loop-i
+invariant-loop-i l = Written l.at l.text (take l.i l.initial.out) l.place l.out
+
+abbrev pub decreases-loop-i : goal.decreases-loop-i
+decreases-loop-i l = length l.initial.out - l.i
