@@ -32,12 +32,29 @@ FIELDS = set(
     "after-point after-sign before-point body-small first-day first-month first-stop first-within from-set good-table groupAnds groupOrs kind-small"
     " last-month other-closed second-stop second-within too-few too-long within-left within-right".split()
 )
+USE = re.compile(r"\buse ([^\s;{]+?)(?:\.?\{([^{}]*)\})?(?: as (\S+?))?(?=;|\s|$)")
 FENCE = re.compile(r"^```[^\n]*\n(.*?)^```$", re.S | re.M)
 
 
 def read(path):
     with open(path, encoding="utf-8") as f:
         return f.read()
+
+
+def is_own(path):
+    steps = path.split(".")
+    return steps[0] == "Rattle" and os.path.isdir(os.path.join("crates", *steps[1:2])) and len(steps) > 1
+
+
+def of_kit(text):
+    """The names that a file imports from a library that is not this repository's."""
+    found = set()
+    uses = GHOST_USE.findall(text)
+    for path, items, _ in USE.findall("\n".join(uses) if uses else text):
+        if not is_own(path):
+            found |= {it.split(" as ")[-1].strip() for it in items.replace("\n", " ").split(",")}
+            found |= {it.split(" as ")[0].strip() for it in items.replace("\n", " ").split(",")}
+    return found
 
 
 def sources(*endings):
@@ -65,12 +82,19 @@ def table():
     together = collections.defaultdict(list)
     for name in defined | lemmas:
         together[snake(name)].append(name)
+    # Where a file has an import of a library that is spelled like the new name, that name is taken.
+    taken = set()
+    for path in sources(".antt", ".rt"):
+        text = read(path)
+        text = text if path.endswith(".antt") else "\n".join(GHOST_USE.findall(text))
+        imported = of_kit(text)
+        taken |= {snake(it) for it in set(re.findall(WORD, text)) - imported if it in defined | lemmas and snake(it) in imported and snake(it) != it}
     rows = []
     for new, names in sorted(together.items()):
         # The definition that is no rule of a grammar keeps the plain name; then what is spelled so already; then what has no dash.
         names.sort(key=lambda it: (it not in defined, "-" in it and len(names) > 1 and it in defined, it != new, "-" in it, it))
         for at, old in enumerate(names):
-            to = new if at == 0 else new + ("_rule" if old in defined else "_law")
+            to = new if at == 0 and new not in taken else new + ("_rule" if old in defined else "_law")
             if to != old:
                 rows.append((old, to, "proofs" if old == new else "all"))
     return sorted(rows)
@@ -78,6 +102,7 @@ def table():
 
 class Speller:
     def __init__(self, rows):
+        self.kit = set()
         self.modules, self.fields = set(), FIELDS & {it[0] for it in rows}
         self.all = {old: new for old, new, where in rows if where == "all"}
         self.proofs = {**self.all, **{old: new for old, new, where in rows if where == "proofs"}}
@@ -99,6 +124,7 @@ class Speller:
 
     def antt(self, text, is_proof=False):
         names, out, at = self.proofs if is_proof else self.all, [], 0
+        names = {old: new for old, new in names.items() if old not in self.kit}
         self.modules = {m[2] for m in ALIAS.finditer(text) if not MADE.match(m[1])}
         for m in QUIET.finditer(text):
             out += [self.words(text[at : m.start()], names, is_proof), m[0] if m[0][0] == '"' else self.comment(m[0], names)]
@@ -159,6 +185,7 @@ def main(arguments):
     pages = [it for it in glob.glob("*.md") + glob.glob("docs/**/*.md", recursive=True)]
     for path in [*sources(".antt", ".rt", ".edit"), *pages]:
         old = read(path)
+        speller.kit = of_kit(old)
         if path.endswith(".antt"):
             new = speller.antt(old, "/proofs/" in path)
         elif path.endswith(".rt"):

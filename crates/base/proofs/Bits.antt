@@ -21,8 +21,8 @@ or_digit (suc zero) (suc (suc v)) hu hv = absurd (omega arith)
 or_digit (suc (suc u)) v hu hv = absurd (omega arith)
 
 -- the union
-pub bit_or : (a b i : ℕ) → bit (bit_or a b) i ≡ (bit a i || bit b i)
-bit_or a b i =
+pub bit_or_law : (a b i : ℕ) → bit (bit_or a b) i ≡ (bit a i || bit b i)
+bit_or_law a b i =
     ap (λ (x : ℕ). eqb (x % 2) 1) (or_shr a b i)
     ∙ ap (λ (x : ℕ). eqb x 1) (or_mod (a / 2 ^ i) (b / 2 ^ i) 1)
     ∙ or_digit (a / 2 ^ i % 2) (b / 2 ^ i % 2) (mod-lt (a / 2 ^ i) (omega arith)) (mod-lt (b / 2 ^ i) (omega arith))
@@ -35,8 +35,8 @@ and_digit (suc zero) (suc (suc v)) hu hv = absurd (omega arith)
 and_digit (suc (suc u)) v hu hv = absurd (omega arith)
 
 -- the intersection
-pub bit_and : (a b i : ℕ) → bit (bit_and a b) i ≡ (bit a i && bit b i)
-bit_and a b i =
+pub bit_and_law : (a b i : ℕ) → bit (bit_and a b) i ≡ (bit a i && bit b i)
+bit_and_law a b i =
     ap (λ (x : ℕ). eqb (x % 2) 1) (and_shr a b i)
     ∙ ap (λ (x : ℕ). eqb x 1) (and_mod (a / 2 ^ i) (b / 2 ^ i) 1)
     ∙ and_digit (a / 2 ^ i % 2) (b / 2 ^ i % 2) (mod-lt (a / 2 ^ i) (omega arith)) (mod-lt (b / 2 ^ i) (omega arith))
@@ -55,8 +55,8 @@ xor_digit (suc zero) (suc zero) hu hv = refl
 xor_digit (suc zero) (suc (suc v)) hu hv = absurd (omega arith)
 xor_digit (suc (suc u)) v hu hv = absurd (omega arith)
 
-pub bit_xor : (a b i : ℕ) → bit (bit_xor a b) i ≡ either (bit a i) (bit b i)
-bit_xor a b i =
+pub bit_xor_law : (a b i : ℕ) → bit (bit_xor a b) i ≡ either (bit a i) (bit b i)
+bit_xor_law a b i =
     ap (λ (x : ℕ). eqb (x % 2) 1) (xor_shr a b i)
     ∙ ap (λ (x : ℕ). eqb x 1) (xor_mod (a / 2 ^ i) (b / 2 ^ i) 1)
     ∙ xor_digit (a / 2 ^ i % 2) (b / 2 ^ i % 2) (mod-lt (a / 2 ^ i) (omega arith)) (mod-lt (b / 2 ^ i) (omega arith))
@@ -129,7 +129,7 @@ pub or_assoc : (a b c : ℕ) → bit_or (bit_or a b) c ≡ bit_or a (bit_or b c)
 or_assoc a b c =
     same_members (bit_or (bit_or a b) c) (bit_or a (bit_or b c))
     (λ i.
-    bit_or (bit_or a b) c i
-    ∙ ap (λ (x : Bool). x || bit c i) (bit_or a b i)
+    bit_or_law (bit_or a b) c i
+    ∙ ap (λ (x : Bool). x || bit c i) (bit_or_law a b i)
     ∙ or_assoc_digit (bit a i) (bit b i) (bit c i)
-    ∙ inv (bit_or a (bit_or b c) i ∙ ap (λ (x : Bool). bit a i || x) (bit_or b c i)))
+    ∙ inv (bit_or_law a (bit_or b c) i ∙ ap (λ (x : Bool). bit a i || x) (bit_or_law b c i)))

@@ -6,7 +6,7 @@ use lib.Dec.{T}
 use lib.Ieee.Fits.{and_l, and_r}
 use mathlib.Core.List.{List, [], ◌∷◌}
 use Prim.Native.Nat.{ℕ, zero, suc, ◌+◌, ◌<◌}
-use native.Mathlib.Nat.{add_zero, zero-add, add-suc, suc-add, le_of_suc-le-suc, not-suc-le-zero}
+use native.Mathlib.Nat.{add-zero, zero-add, add-suc, suc-add, le_of_suc-le-suc, not-suc-le-zero}
 use lib.ListN.{get_or}
 
 module _ {A : Type 0} where
@@ -16,7 +16,7 @@ module _ {A : Type 0} where
 
   from : (f : ℕ → A) (i n k : ℕ) (d : A) → k < n → get_or (tab f i n) k d ≡ f (i + k)
   from f i zero k d h = absurd (not-suc-le-zero h)
-  from f i (suc n) zero d h = ap f (sym (add_zero i))
+  from f i (suc n) zero d h = ap f (sym (add-zero i))
   from f i (suc n) (suc k) d h = from f (suc i) n k d (le_of_suc-le-suc h) ∙ ap f (suc-add i k ∙ sym (add-suc i k))
 
   pub tab_at : (f : ℕ → A) (n k : ℕ) (d : A) → k < n → get_or (tab f 0 n) k d ≡ f k
@@ -29,7 +29,7 @@ all t i (suc n) = t i && all t (suc i) n
 
 all_from : (t : ℕ → Bool) (i n : ℕ) → T (all t i n) → (k : ℕ) → k < n → T (t (i + k))
 all_from t i zero h k l = absurd (not-suc-le-zero l)
-all_from t i (suc n) h zero l = subst (λ (m : ℕ). T (t m)) (sym (add_zero i)) (and_l (t i) (all t (suc i) n) h)
+all_from t i (suc n) h zero l = subst (λ (m : ℕ). T (t m)) (sym (add-zero i)) (and_l (t i) (all t (suc i) n) h)
 all_from t i (suc n) h (suc k) l =
     subst (λ (m : ℕ). T (t m)) (suc-add i k ∙ sym (add-suc i k)) (all_from t (suc i) n (and_r (t i) (all t (suc i) n) h) k (le_of_suc-le-suc l))
 

@@ -8,6 +8,7 @@ use crate::bytes;
 use crate::order::Order;
 
 // From -2^64 to 2^64 - 1: `Pos(n)` is n, `NegSuc(n)` is -(n + 1). No integer type of the language holds both an unsigned 64-bit value and a negative one.
+#[derive(Drop)]
 #[derive(Clone, Copy)]
 pub enum Whole {
     Pos(u64),

@@ -3,6 +3,7 @@ ghost use Rattle.std.specs.Prelude.{◌≡◌};
 ghost use Rattle.base.specs.Order.{holds};
 
 // Undecided: neither equal nor in order.
+#[derive(Drop)]
 #[derive(Clone, Copy)]
 pub enum Order {
     Before,
@@ -12,6 +13,7 @@ pub enum Order {
 }
 
 // `=`, `<>`, `<`, `<=`, `>`, `>=`.
+#[derive(Drop)]
 #[derive(Clone, Copy)]
 pub enum Operator {
     Equal,

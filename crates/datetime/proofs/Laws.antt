@@ -1,6 +1,6 @@
 -- One law for each exit of the functions that read a datetime, its premises in the order in which the code learns them.
 use mathlib.Core.Path.{◌≡◌, ◌∙◌, sym}
-use mathlib.Core.Bool.{Bool, true, false, not, ◌&&◌, ◌||◌, or_false}
+use mathlib.Core.Bool.{Bool, true, false, not, ◌&&◌, ◌||◌, or-false}
 use mathlib.Core.List.{List}
 use mathlib.Core.Logic.{◌⊎◌, inl, inr}
 use Prim.Native.Nat.{ℕ, ◌-◌, ◌≤◌, ◌<◌}
@@ -88,7 +88,7 @@ module _ {r : Bool} (s : List ℕ) (shape : r ≡ shaped s) where
       interval_by_tail h e = rw (← shape, not-false r good, ← time, ← timed, not-false q in-time, h, e)
 
       pub timestamp_by_date : (sign_in s ≡ 58 → ⊥) → {p : Bool} → p ≡ is_sign (sign_in s) → {d : Date} → d ≡ date_in s → {b : Bool} → b ≡ is_date d → (p && b) ≡ (is_timestamp s || is_interval s)
-      timestamp_by_date h {p} ep ed {b} eb = rw (← shape, not-false r good, ← time, ← timed, not-false q in-time, ne_eqb _ _ h, ← ep, ← ed, ← eb) (sym (or_false (p && b)))
+      timestamp_by_date h {p} ep ed {b} eb = rw (← shape, not-false r good, ← time, ← timed, not-false q in-time, ne_eqb _ _ h, ← ep, ← ed, ← eb) (sym (or-false (p && b)))
 
 -- what it says
 module _ (s : List ℕ) (told : (is_timestamp s || is_interval s) ≡ true) where

@@ -2,7 +2,7 @@
 use Prim.Native.Nat.{ℕ, zero, suc, ◌+◌, ◌≤◌, ◌<◌}
 use mathlib.Core.Path.{◌≡◌, refl, sym, ◌∙◌}
 use mathlib.Core.Bool.{Bool, true, false, ◌&&◌, ◌||◌}
-use native.Mathlib.Nat.{add_zero}
+use native.Mathlib.Nat.{add-zero}
 use native.Mathlib.Omega.{arith}
 use lib.Dec.{T, ltb, eqb, eqb→eq}
 use borrow.Author.Tests.{ne_eqb}
@@ -55,5 +55,5 @@ module _ {days : ℕ} (leap : Bool) (m : ℕ) (there : m ≤ 12) (common : days 
   without_leap_day h = go leap h
     where
       go : (b : Bool) → (b && ltb 2 m) ≡ false → days ≡ days_before_month b m
-      go true e = common ∙ sym (ahead m (omega arith) ∙ rw e (add_zero (days_before_month false m)))
+      go true e = common ∙ sym (ahead m (omega arith) ∙ rw e (add-zero (days_before_month false m)))
       go false e = common

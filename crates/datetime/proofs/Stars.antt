@@ -1,7 +1,7 @@
 -- One law for each exit of the functions that find the unknown digits and fill them in.
 use Prim.Native.Nat.{ℕ, suc, ◌+◌, ◌-◌, ◌≤◌, ◌<◌}
 use mathlib.Core.Path.{◌≡◌, refl, sym, ap, ◌∙◌}
-use mathlib.Core.Bool.{Bool, true, false, not, or_false}
+use mathlib.Core.Bool.{Bool, true, false, not, or-false}
 use mathlib.Core.List.{List, ◌++◌, append-nil, append_assoc}
 use native.Mathlib.Numerals.{add-one}
 use native.Mathlib.Omega.{arith}
@@ -92,10 +92,10 @@ pub starts_digit : (interval : Bool) (k : ℕ) → NoField k → leb 15 k ≡ ma
 starts_digit interval k h = go interval
   where
     go : (b : Bool) → leb 15 k ≡ may_start b k
-    go true = rw (ne_eqb k 0 h.0.0.0.0.0.1, ne_eqb k 8 h.0.0.1, ne_eqb k 10 h.0.1, ne_eqb k 12 h.1) (sym (or_false (leb 15 k)))
+    go true = rw (ne_eqb k 0 h.0.0.0.0.0.1, ne_eqb k 8 h.0.0.1, ne_eqb k 10 h.0.1, ne_eqb k 12 h.1) (sym (or-false (leb 15 k)))
     go false =
         rw (ne_eqb k 0 h.0.0.0.0.0.1, ne_eqb k 4 h.0.0.0.0.1, ne_eqb k 6 h.0.0.0.1, ne_eqb k 8 h.0.0.1, ne_eqb k 10 h.0.1, ne_eqb k 12 h.1)
-        (sym (or_false (leb 15 k)))
+        (sym (or-false (leb 15 k)))
 
 -- a copy of the text, and the digits stored over it
 pub fills : {a b c p : List ℕ} {m n : ℕ} (k : ℕ) (digits s : List ℕ) → k ≤ 21 → length digits ≡ 21 → length s ≡ 25 → length a ≡ 25

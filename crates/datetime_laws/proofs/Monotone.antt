@@ -3,7 +3,7 @@ use Prim.Native.Nat.{ℕ, zero, suc, ◌+◌, ◌-◌, ◌*◌, ◌≤◌, ◌<�
 use mathlib.Core.Path.{◌≡◌, refl, sym, ◌∙◌}
 use mathlib.Core.Bool.{Bool, true, false, cond}
 use mathlib.Core.List.{List}
-use native.Mathlib.Nat.{add_zero}
+use native.Mathlib.Nat.{add-zero}
 use native.Mathlib.Omega.{arith}
 use lib.Dec.{eqb, ltb, le→leb, lt→ltb}
 use lib.IntN.{pos, negsuc, neg_ℤ, ◌-ℤ◌}
@@ -57,7 +57,7 @@ same_test a b c d f g = go (ltb a b) refl (ltb c d) refl
     go false e false h = refl
 
 difference_order : (a b c : ℕ) → lt_z (pos a -ℤ pos c) (pos b -ℤ pos c) ≡ ltb a b
-difference_order a b zero = rw (add_zero a, add_zero b)
+difference_order a b zero = rw (add-zero a, add-zero b)
 difference_order a b (suc c) = go (ltb a (suc c)) refl (ltb b (suc c)) refl
   where
     go : (p : Bool) → ltb a (suc c) ≡ p → (q : Bool) → ltb b (suc c) ≡ q

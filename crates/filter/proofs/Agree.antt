@@ -4,7 +4,7 @@ use Prim.Native.Nat.{ℕ}
 use mathlib.Core.Path.{◌≡◌, refl}
 use mathlib.Core.List.{List, [], ◌∷◌}
 use mathlib.Core.Logic.{◌⊎◌, inl, inr}
-use mathlib.Core.Bool.{Bool, true, false, not, ◌&&◌, ◌||◌, or_false}
+use mathlib.Core.Bool.{Bool, true, false, not, ◌&&◌, ◌||◌, or-false}
 use mathlib.Core.Option.{Option, none, some}
 use Rattle.record.specs.Kind.{kind_of, same_row}
 use Rattle.record.specs.declared.kind.Family.{Family}
@@ -160,7 +160,7 @@ module _ (a : LeftSide) (o : Operation) (f : Family) where
   meet_agrees nm rs ls row ord vi fl misshapen (meaning.Right.many ys) unfit (whole g) = (refl, refl)
   meet_agrees nm rs ls row ord vi fl (meaning.Left.one x) (meaning.Right.many ys) (one h) (whole g) = (refl, refl)
   meet_agrees nm rs ls row ord vi fl (meaning.Left.many xs) (meaning.Right.many ys) whole (whole g) =
-      rw (equality_of o, or_false (equality (operator_of o))) (both_agrees a.start (arrays (operator_of o)) (equality (operator_of o)) row passes fl (value xs) ys good g)
+      rw (equality_of o, or-false (equality (operator_of o))) (both_agrees a.start (arrays (operator_of o)) (equality (operator_of o)) row passes fl (value xs) ys good g)
   meet_agrees nm rs ls row ord vi fl (meaning.each any xs) (meaning.Right.many ys) each (whole g) = (refl, refl)
   meet_agrees nm rs ls row ord vi fl misshapen (meaning.pattern r) unfit (pattern g) = (refl, refl)
   meet_agrees nm rs ls row ord vi fl (meaning.Left.one x) (meaning.pattern r) (one h) (pattern g) =

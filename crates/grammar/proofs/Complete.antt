@@ -191,11 +191,11 @@ module _ (s : Scan) where
     ReadsLeft sg pl u (HasLeft a t) = (single a.quantifier ≡ sg) × (plain a.quantifier a.index ≡ pl) × (t ≡ u)
     ReadsLeft sg pl u (NoLeft x) = ⊥
 
-    plain_left_law : (x : ℕ) (n : Bool) (u : Token) (r : ReferenceResult) → ReadsPlain u r → ReadsLeft true true u (GC.left_of x n Single r)
+    plain_left : (x : ℕ) (n : Bool) (u : Token) (r : ReferenceResult) → ReadsPlain u r → ReadsLeft true true u (GC.left_of x n Single r)
     unfolding GC.left_of
-    plain_left_law x n u (HasReference p Whole t) e = (refl, refl, e)
-    plain_left_law x n u (HasReference p (At i) t) e = absurd e
-    plain_left_law x n u (NoReference y) e = e
+    plain_left x n u (HasReference p Whole t) e = (refl, refl, e)
+    plain_left x n u (HasReference p (At i) t) e = absurd e
+    plain_left x n u (NoReference y) e = e
 
     indexed_left : (x : ℕ) (n : Bool) (u : Token) (r : ReferenceResult) → ReadsIndexed u r → ReadsLeft true false u (GC.left_of x n Single r)
     unfolding GC.left_of
@@ -224,7 +224,7 @@ module _ (s : Scan) where
       name_left = rw (other t Name (Word Reserved.Not) a refl) (rw no_quantifier refl)
 
     pub left_plain : (t u : Token) → Fits s property t u → same u (Symbol Dot) ≡ false → same u (Symbol OpenIndex) ≡ false → ReadsLeft true true u (GC.left_side s t)
-    left_plain t u f d e = rw (name_left t (name_first t u f)) (plain_left_law t.start false u (GP.reference s true t) (plain_read true t u f d e))
+    left_plain t u f d e = rw (name_left t (name_first t u f)) (plain_left t.start false u (GP.reference s true t) (plain_read true t u f d e))
 
     element_first : (t u : Token) → Fits s (element s) t u → same t Name ≡ true
     element_first t u (join {m = m} f g) = name_first t m f
@@ -260,11 +260,11 @@ module _ (s : Scan) where
     unfolding GC.operand
     right_literal pl o t l = rw l (refl, omega arith)
 
-    plain_right_law : (u : Token) (r : ReferenceResult) → ReadsPlain u r → ReadsRight 32 0 u (GC.operand_of r)
+    plain_right : (u : Token) (r : ReferenceResult) → ReadsPlain u r → ReadsRight 32 0 u (GC.operand_of r)
     unfolding GC.operand_of
-    plain_right_law u (HasReference p Whole t) e = (e, omega arith)
-    plain_right_law u (HasReference p (At i) t) e = absurd e
-    plain_right_law u (NoReference x) e = absurd e
+    plain_right u (HasReference p Whole t) e = (e, omega arith)
+    plain_right u (HasReference p (At i) t) e = absurd e
+    plain_right u (NoReference x) e = absurd e
 
     indexed_right : (u : Token) (r : ReferenceResult) → ReadsIndexed u r → ReadsRight 32 0 u (GC.operand_of r)
     unfolding GC.operand_of
@@ -277,7 +277,7 @@ module _ (s : Scan) where
     name_operand pl o t a = rw (name_no_literal t a, other t Name (Symbol OpenList) a refl) refl
 
     right_property_law : (pl : Bool) (o : Operator) (t u : Token) → Fits s property t u → same u (Symbol Dot) ≡ false → not pl && same u (Symbol OpenIndex) ≡ false → ReadsRight 32 0 u (GC.operand s pl o t)
-    right_property_law pl o t u f d e = rw (name_operand pl o t (name_first t u f)) (plain_right_law u (GP.reference s (not pl) t) (plain_read (not pl) t u f d e))
+    right_property_law pl o t u f d e = rw (name_operand pl o t (name_first t u f)) (plain_right u (GP.reference s (not pl) t) (plain_read (not pl) t u f d e))
 
     right_element : (o : Operator) (t u : Token) → Fits s (element s) t u → ReadsRight 32 0 u (GC.operand s false o t)
     right_element o t u f = rw (name_operand false o t (element_first t u f)) (indexed_right u (GP.reference s true t) (element_read t u f))

@@ -58,13 +58,13 @@ module _ (s : Scan) where
   PathOk t (HasPath p u) = Fits s property t u
   PathOk t (NoPath x) = Nothing
 
-  path_of_law : (t : Token) (r : PathResult) → ((u : Token) → Ends u r → Fits s property t u) → PathOk t r
+  path_of : (t : Token) (r : PathResult) → ((u : Token) → Ends u r → Fits s property t u) → PathOk t r
   unfolding Ends
-  path_of_law t (HasPath p u) f = f u refl
-  path_of_law t (NoPath x) f = refl
+  path_of t (HasPath p u) f = f u refl
+  path_of t (NoPath x) f = refl
 
   path_ok : (t : Token) → PathOk t (GP.property s t)
-  path_ok t = path_of_law t (GP.property s t) (property_fits s t)
+  path_ok t = path_of t (GP.property s t) (property_fits s t)
 
   abbrev pub IndexOk : Bool → Token → IndexResult → Type 0
   IndexOk a t (HasIndex Whole u) = t ≡ u

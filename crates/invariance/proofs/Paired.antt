@@ -68,12 +68,12 @@ module _ (t u : List ℕ) where
       let v = again x y (omega arith) (omega arith) (omega arith) r in
       omega arith
 
-  left_from_law : (f at place : ℕ) → length t - at < f → Left at place
+  left_from : (f at place : ℕ) → length t - at < f → Left at place
   unfolding Left
-  left_from_law zero at place d h g w = absurd (omega arith)
-  left_from_law (suc f) at place d h g w =
-      left_step at place (λ x y l p. left_from_law f x y (omega arith) p) h g (stand t u SameName at place w)
+  left_from zero at place d h g w = absurd (omega arith)
+  left_from (suc f) at place d h g w =
+      left_step at place (λ x y l p. left_from f x y (omega arith) p) h g (stand t u SameName at place w)
 
   pub same_length : Paired t u SameName (records t 0) (records u 0) → length u ≡ length t
   unfolding Left
-  same_length w = omega (arith, left_from_law (suc (length t)) 0 0 (omega arith) (omega arith) (omega arith) w)
+  same_length w = omega (arith, left_from (suc (length t)) 0 0 (omega arith) (omega arith) (omega arith) w)

@@ -1,6 +1,6 @@
 -- The memory of the symbols that stand for a character: it starts with none, and stays right as one is found in it or put there. Assumes nothing.
 use mathlib.Core.Path.{◌≡◌, refl, ap, subst, sym as inv, ◌∙◌}
-use mathlib.Core.Bool.{Bool, ◌||◌, or_false}
+use mathlib.Core.Bool.{Bool, ◌||◌, or-false}
 use mathlib.Core.List.{List}
 use Prim.Native.Nat.{ℕ, zero, suc, ◌+◌, ◌<◌}
 use native.Mathlib.Omega.{arith}
@@ -9,7 +9,7 @@ use lib.ListN.{length, get_or, set, replicate, length-set, length-replicate}
 use lib.Seq.{get_or-set_same, get_or-set_other}
 use lib.Bits.{bit_or}
 use Rattle.base.specs.Bits.{bit}
-use Rattle.base.proofs.Bits.{bit_or, bit_other}
+use Rattle.base.proofs.Bits.{bit_or_law, bit_other}
 use Rattle.base.specs.Part.{part}
 use Rattle.unicode.specs.WellFormed.{sequence_at}
 use Rattle.unicode.specs.Scalar.{scalar_of, scalar_at}
@@ -40,9 +40,9 @@ module _ (p : List ℕ) (c : ℕ) {memory : List ℕ} (right : Remembers p memor
     module _ (hit : ℕ) (found : Hits p c hit) where
       pub ascii_known : Hits p c (bit_or hit 0x8000000000000000)
       ascii_known ps l i b =
-          bit_or hit 0x8000000000000000 i
+          bit_or_law hit 0x8000000000000000 i
           ∙ ap (λ (t : Bool). bit hit i || t) (bit_other 63 i (λ d. omega arith))
-          ∙ or_false (bit hit i)
+          ∙ or-false (bit hit i)
           ∙ found ps l i b
 
       pub ascii_stored : Remembers p (set memory c (bit_or hit 0x8000000000000000))

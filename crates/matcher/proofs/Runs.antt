@@ -12,7 +12,7 @@ use lib.Dec.{eqb}
 use lib.Pow.{pow-lt}
 use Rattle.base.specs.Bits.{bit}
 use Rattle.base.specs.Pick.{pick}
-use Rattle.base.proofs.Bits.{bit_and, bit_zero}
+use Rattle.base.proofs.Bits.{bit_and_law, bit_zero}
 use Rattle.pattern.specs.declared.fragment.Fragment.{Fragment}
 use Rattle.pattern.specs.Automaton.{kept_if, automaton_of}
 use Rattle.pattern.specs.Links.{leads}
@@ -53,7 +53,7 @@ rest_step r m n st c hit w stands ready =
     (fun_ext (λ i.
     and_comm (bit hit i) (comes st.set (not (begun st)) i (automaton_of r))
     ∙ ap (λ (b : Bool). b && bit hit i) (inv (ready i))
-    ∙ inv (bit_and st.onward hit i))))
+    ∙ inv (bit_and_law st.onward hit i))))
   where
     opened : (b : Bool) → rest_by b r st.set (c ∷ w) ≡ run (shift (not b) (with_live (bit st.set) r) c) w
     opened true = refl
@@ -88,7 +88,7 @@ meets_and : (S T : ℕ) → T < 2 ^ 64 → meets S T ≡ not (eqb (bit_and S T) 
 meets_and S T l = go (ℕ_discrete (bit_and S T) 0)
   where
     at : (j : ℕ) → (bit S j && bit T j) ≡ bit (bit_and S T) j
-    at j = inv (bit_and S T j)
+    at j = inv (bit_and_law S T j)
 
     go : Dec (bit_and S T ≡ 0) → meets S T ≡ not (eqb (bit_and S T) 0)
     go (yes e) =

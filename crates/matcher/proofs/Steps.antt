@@ -1,11 +1,11 @@
 -- A step of the automaton is a shift of the live symbols of a run. Assumes nothing.
 use mathlib.Core.Path.{◌≡◌, refl, ap, ap₂, sym as inv, ◌∙◌}
-use mathlib.Core.Bool.{Bool, true, false, ◌&&◌, ◌||◌, and_true, or_false, or_true, and_assoc, and_comm, or_comm}
+use mathlib.Core.Bool.{Bool, true, false, ◌&&◌, ◌||◌, and-true, or-false, or-true, and_assoc, and_comm, or_comm}
 use Prim.Native.Nat.{ℕ, ◌≤◌, ◌<◌, ◌+◌, ◌^◌}
 use native.Mathlib.Omega.{arith}
 use lib.Bits.{bit_or}
 use Rattle.base.specs.Bits.{bit}
-use Rattle.base.proofs.Bits.{bit_or, bit_zero, bit_same, bit_other}
+use Rattle.base.proofs.Bits.{bit_or_law, bit_zero, bit_same, bit_other}
 use Rattle.base.proofs.Says.{and_false}
 use Rattle.pattern.specs.Automaton.{kept_if, Automaton, over, in_sequence, in_alternatives, again, automaton_of}
 use Rattle.pattern.specs.Links.{any_below, leads}
@@ -36,22 +36,22 @@ num_le (plus a) k m h = num_le a k m h
 -- ---- Booleans
 
 in_left : (xa la b fa na : Bool) → (xa || (b && fa)) ≡ (((xa || false) || (la && false)) || (b && (fa || (na && false))))
-in_left xa la b fa na = simp (and_false, or_false)
+in_left xa la b fa na = simp (and_false, or-false)
 
 in_right : (xr la fr b na : Bool) → (xr || (((b && na) || la) && fr)) ≡ (((false || xr) || (la && fr)) || (b && (false || (na && fr))))
 in_right true la fr b na = refl
 in_right false la false b na = simp and_false
-in_right false true true b na = simp or_true
-in_right false false true b na = simp (or_false, and_true)
+in_right false true true b na = simp or-true
+in_right false false true b na = simp (or-false, and-true)
 
 alt_left : (xa b fa : Bool) → (xa || (b && fa)) ≡ ((xa || false) || (b && (fa || false)))
-alt_left xa b fa = simp or_false
+alt_left xa b fa = simp or-false
 
 once_more : (x l f b : Bool) → (x || ((b || l) && f)) ≡ ((x || (l && f)) || (b && f))
 once_more true l f b = refl
 once_more false l false b = simp and_false
-once_more false l true true = simp or_true
-once_more false l true false = simp (and_true, or_false)
+once_more false l true true = simp or-true
+once_more false l true false = simp (and-true, or-false)
 
 -- ---- the symbols that the live ones lead to
 
@@ -67,7 +67,7 @@ module _ (S i : ℕ) where
   leads_or : (f g : ℕ → ℕ) → leads (λ j. bit_or (f j) (g j)) S i ≡ (leads f S i || leads g S i)
   leads_or f g =
       any_same 64 (λ j. bit S j && bit (bit_or (f j) (g j)) i) (λ j. (bit S j && bit (f j) i) || (bit S j && bit (g j) i))
-      (λ j l. ap (λ (b : Bool). bit S j && b) (bit_or (f j) (g j) i) ∙ and_or (bit S j) (bit (f j) i) (bit (g j) i))
+      (λ j l. ap (λ (b : Bool). bit S j && b) (bit_or_law (f j) (g j) i) ∙ and_or (bit S j) (bit (f j) i) (bit (g j) i))
       ∙ any_or 64 (λ j. bit S j && bit (f j) i) (λ j. bit S j && bit (g j) i)
 
   leads_over : (last first : ℕ) → leads (over last first) S i ≡ (meets S last && bit first i)
@@ -107,10 +107,10 @@ module _ (S : ℕ) (b : Bool) (i : ℕ) where
         (in_right (leads R.next S i) (meets S A.sets.last) (bit R.sets.first i) b A.sets.nullable)
 
     alt_a : bit R.sets.first i ≡ false → leads R.next S i ≡ false → comes A ≡ comes (in_alternatives A R)
-    alt_a p q = rw (leads_or S i A.next R.next, bit_or A.sets.first R.sets.first i, p, q) (alt_left (leads A.next S i) b (bit A.sets.first i))
+    alt_a p q = rw (leads_or S i A.next R.next, bit_or_law A.sets.first R.sets.first i, p, q) (alt_left (leads A.next S i) b (bit A.sets.first i))
 
     alt_r : bit A.sets.first i ≡ false → leads A.next S i ≡ false → comes R ≡ comes (in_alternatives A R)
-    alt_r p q = rw (leads_or S i A.next R.next, bit_or A.sets.first R.sets.first i, p, q)
+    alt_r p q = rw (leads_or S i A.next R.next, bit_or_law A.sets.first R.sets.first i, p, q)
 
   set_again : (A : Automaton) → (leads A.next S i || ((b || meets S A.sets.last) && bit A.sets.first i)) ≡ comes (again A)
   set_again A = rw (leads_again S i A) (once_more (leads A.next S i) (meets S A.sets.last) (bit A.sets.first i) b)
@@ -164,7 +164,7 @@ module _ (i : ℕ) where
       let A = automaton_of a in
       let R = automaton_of b in (
         rw (bit_join A.sets.first R.sets.first i A.sets.nullable, x.0, y.0) (and_false A.sets.nullable),
-        λ j. rw (bit_join (bit_or (A.next j) (R.next j)) R.sets.first i (bit A.sets.last j), bit_or (A.next j) (R.next j) i, x.1 j, y.1 j, y.0)
+        λ j. rw (bit_join (bit_or (A.next j) (R.next j)) R.sets.first i (bit A.sets.last j), bit_or_law (A.next j) (R.next j) i, x.1 j, y.1 j, y.0)
             (and_false (bit A.sets.last j)),
       )
   outside (alt a b) k m h o =
@@ -172,7 +172,7 @@ module _ (i : ℕ) where
       let u = num_le b h.0 m h.2 in
       let x = outside a k h.0 h.1 (λ p q. o p (omega arith)) in
       let y = outside b h.0 m h.2 (λ p q. o (omega arith) q) in
-      (rw (bit_or, x.0, y.0), λ j. rw (bit_or, x.1 j, y.1 j))
+      (rw (bit_or_law, x.0, y.0), λ j. rw (bit_or_law, x.1 j, y.1 j))
   outside (opt a) k m h o = outside a k m h o
   outside (plus a) k m h o =
       let x = outside a k m h o in
@@ -189,13 +189,13 @@ module _ (S c : ℕ) (h : ℕ → Bool) where
     where
       turn : (s x b y : Bool) → (s && (x || (b && y))) ≡ (((s && y) && b) || (s && x))
       turn false x b y = refl
-      turn true x true y = rw (and_true y) (or_comm x y)
-      turn true x false y = rw (and_false y) (or_false x)
+      turn true x true y = rw (and-true y) (or_comm x y)
+      turn true x false y = rw (and_false y) (or-false x)
 
   meets_or : (x y : ℕ) → meets S (bit_or x y) ≡ (meets S x || meets S y)
   meets_or x y =
       any_same 64 (λ j. bit S j && bit (bit_or x y) j) (λ j. (bit S j && bit x j) || (bit S j && bit y j))
-      (λ j l. ap (λ (t : Bool). bit S j && t) (bit_or x y j) ∙ and_or (bit S j) (bit x j) (bit y j))
+      (λ j l. ap (λ (t : Bool). bit S j && t) (bit_or_law x y j) ∙ and_or (bit S j) (bit x j) (bit y j))
       ∙ any_or 64 (λ j. bit S j && bit x j) (λ j. bit S j && bit y j)
 
   pub final_ok : (r : Regex ℕ) → Stands r h c → final (with_live (bit S) r) ≡ meets S (automaton_of r).sets.last
@@ -204,7 +204,7 @@ module _ (S c : ℕ) (h : ℕ → Bool) where
   final_ok (sym n p) t =
       inv
       (any_one 64 n (λ j. bit S j && bit (2 ^ n) j) (omega (arith, t.0)) (λ j d. ap (λ (b : Bool). bit S j && b) (bit_other n j d) ∙ and_false (bit S j))
-      ∙ rw (bit_same n) (and_true (bit S n)))
+      ∙ rw (bit_same n) (and-true (bit S n)))
   final_ok (seq a b) t =
       ap₂ ◌||◌ (ap₂ ◌&&◌ (final_ok a t.0) (nullable_ok b (bit S))) (final_ok b t.1)
       ∙ inv (meets_join (automaton_of b).sets.last (automaton_of a).sets.last (automaton_of b).sets.nullable)
@@ -219,7 +219,7 @@ module _ (S c : ℕ) (h : ℕ → Bool) where
   step_ok (sym j p) k m n t b =
       ap (λ (x : Bool). sym x p)
       (and_comm b (stands_for p c)
-      ∙ inv (ap₂ ◌&&◌ t.1 (ap₂ (λ (x y : Bool). x || (b && y)) (leads_none S j (λ i. 0) (λ i. bit_zero j)) (bit_same j) ∙ and_true b)))
+      ∙ inv (ap₂ ◌&&◌ t.1 (ap₂ (λ (x y : Bool). x || (b && y)) (leads_none S j (λ i. 0) (λ i. bit_zero j)) (bit_same j) ∙ and-true b)))
   step_ok (seq a r) k m n t b =
       let A = automaton_of a in
       let R = automaton_of r in

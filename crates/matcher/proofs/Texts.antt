@@ -2,7 +2,7 @@
 use mathlib.Core.Path.{◌≡◌, refl, ap, subst, sym as inv, ◌∙◌}
 use mathlib.Core.List.{List, [], ◌∷◌}
 use mathlib.Core.Option.{Option, none, some}
-use mathlib.Core.Bool.{Bool, false, not, ◌&&◌, ◌||◌, or_false}
+use mathlib.Core.Bool.{Bool, false, not, ◌&&◌, ◌||◌, or-false}
 use Prim.Native.Nat.{ℕ, ◌≤◌, ◌+◌}
 use native.Mathlib.Omega.{arith}
 use lib.ListN.{length, get_or, replicate}
@@ -88,7 +88,7 @@ module _ (p : List ℕ) (whole : Fragment) (links : List ℕ) (tables : Linked (
   ready_begun st z g i =
       g i
       ∙ same_leads st.set i
-      ∙ inv (or_false (leads (automaton_of tables.regex).next st.set i))
+      ∙ inv (or-false (leads (automaton_of tables.regex).next st.set i))
       ∙ ap (λ (x : Bool). leads (automaton_of tables.regex).next st.set i || (not (not x) && bit (automaton_of tables.regex).sets.first i)) (inv (ne_eqb st.set 0 z))
 
   stands : (c hit : ℕ) → Hits p c hit → Stands tables.regex (bit hit) c

@@ -1,13 +1,13 @@
 -- Automata one after another and beside one another: how they are bracketed doesn't matter, and what matches the empty text alone, or nothing, adds
 -- nothing. Links, each addition after the other. Assumes nothing.
 use mathlib.Core.Path.{◌≡◌, refl, ap, ap₂, sym as inv, ◌∙◌}
-use mathlib.Core.Bool.{Bool, true, false, ◌&&◌, ◌||◌, and_true, and_assoc, or_assoc as or-of-or}
+use mathlib.Core.Bool.{Bool, true, false, ◌&&◌, ◌||◌, and-true, and_assoc, or_assoc as or-of-or}
 use mathlib.Core.List.{List}
 use Prim.Native.Nat.{ℕ, ◌<◌}
 use lib.Bits.{bit_or, or_zero_l, or_zero_r}
 use lib.ListN.{length, get_or}
 use Rattle.base.specs.Bits.{bit}
-use Rattle.base.proofs.Bits.{bit_or, bit_zero, same_members, or_assoc}
+use Rattle.base.proofs.Bits.{bit_or_law, bit_zero, same_members, or_assoc}
 use Rattle.pattern.specs.declared.fragment.Fragment.{Fragment}
 use Rattle.pattern.specs.Automaton.{kept_if, Automaton, over, nothing, empty_text, in_sequence, in_alternatives}
 use Rattle.pattern.specs.Links.{Adds}
@@ -23,7 +23,7 @@ kept_none true = refl
 kept_none false = refl
 
 pub bit_join : (x y i : ℕ) (b : Bool) → bit (bit_or x (kept_if b y)) i ≡ (bit x i || (b && bit y i))
-bit_join x y i b = bit_or x (kept_if b y) i ∙ ap (λ (z : Bool). bit x i || z) (bit_kept b y i)
+bit_join x y i b = bit_or_law x (kept_if b y) i ∙ ap (λ (z : Bool). bit x i || z) (bit_kept b y i)
 
 first_assoc : (m n : Bool) (x y z : ℕ) → bit_or (bit_or x (kept_if m y)) (kept_if (m && n) z) ≡ bit_or x (kept_if m (bit_or y (kept_if n z)))
 first_assoc true true x y z = or_assoc x y z
@@ -71,13 +71,13 @@ module _ (f g h fl gl gf hf : ℕ) (n : Bool) (j : ℕ) where
   next_assoc = same_members _ _ λ i.
       bit_join (bit_or (bit_or (bit_or f g) (over fl gf j)) h) hf i (bit (bit_or gl (kept_if n fl)) j)
       ∙ ap₂ (λ (u v : Bool). u || (v && bit hf i))
-      (bit_or (bit_or (bit_or f g) (over fl gf j)) h i ∙ ap (λ (u : Bool). u || bit h i) (bit_join (bit_or f g) gf i (bit fl j) ∙ ap (λ (u : Bool). u || (bit fl j && bit gf i)) (bit_or f g i)))
+      (bit_or_law (bit_or (bit_or f g) (over fl gf j)) h i ∙ ap (λ (u : Bool). u || bit h i) (bit_join (bit_or f g) gf i (bit fl j) ∙ ap (λ (u : Bool). u || (bit fl j && bit gf i)) (bit_or_law f g i)))
       (bit_join gl fl j n)
       ∙ next_digit (bit f i) (bit g i) (bit h i) (bit fl j) (bit gl j) n (bit gf i) (bit hf i)
       ∙ inv
       (bit_join (bit_or f (bit_or (bit_or g h) (over gl hf j))) (bit_or gf (kept_if n hf)) i (bit fl j)
       ∙ ap₂ (λ (u v : Bool). u || (bit fl j && v))
-      (bit_or f (bit_or (bit_or g h) (over gl hf j)) i ∙ ap (λ (u : Bool). bit f i || u) (bit_join (bit_or g h) hf i (bit gl j) ∙ ap (λ (u : Bool). u || (bit gl j && bit hf i)) (bit_or g h i)))
+      (bit_or_law f (bit_or (bit_or g h) (over gl hf j)) i ∙ ap (λ (u : Bool). bit f i || u) (bit_join (bit_or g h) hf i (bit gl j) ∙ ap (λ (u : Bool). u || (bit gl j && bit hf i)) (bit_or_law g h i)))
       (bit_join gf hf i n))
 
 -- ---- automata
@@ -108,7 +108,7 @@ sequence_left a = λ i. record {
 pub sequence_right : (a : Automaton) → in_sequence a empty_text ≡ a
 sequence_right a = λ i. record {
   sets = record {
-    nullable = and_true a.sets.nullable i;
+    nullable = and-true a.sets.nullable i;
     first = (ap (bit_or a.sets.first) (kept_none a.sets.nullable) ∙ or_zero_r a.sets.first) i;
     last = or_zero_l a.sets.last i;
   };

@@ -1,6 +1,6 @@
 -- Tests of the numbers below another. Assumes nothing.
 use mathlib.Core.Path.{◌≡◌, refl, ap, ap₂, sym as inv, ◌∙◌}
-use mathlib.Core.Bool.{Bool, true, false, ◌&&◌, ◌||◌, and_true, or_false, or_true}
+use mathlib.Core.Bool.{Bool, true, false, ◌&&◌, ◌||◌, and-true, or-false, or-true}
 use Prim.Native.Nat.{ℕ, zero, suc, ◌<◌}
 use native.Mathlib.Omega.{arith}
 use native.Mathlib.Decide.{ℕ_discrete}
@@ -29,7 +29,7 @@ any_or zero f g = refl
 any_or (suc n) f g = ap (λ (b : Bool). (f n || g n) || b) (any_or n f g) ∙ swap_or (f n) (g n) (any_below n f) (any_below n g)
 
 or_and : (x y b : Bool) → ((x && b) || (y && b)) ≡ ((x || y) && b)
-or_and x y true = rw (and_true x, and_true y, and_true (x || y))
+or_and x y true = rw (and-true x, and-true y, and-true (x || y))
 or_and x y false = rw (and_false x, and_false y, and_false (x || y))
 
 pub any_and : (n : ℕ) (f : ℕ → Bool) (b : Bool) → any_below n (λ j. f j && b) ≡ (any_below n f && b)
@@ -45,7 +45,7 @@ any_one (suc n) k f h e = go (ℕ_discrete k n) (λ l. any_one n k f l e)
     go : Dec (k ≡ n) → (k < n → any_below n f ≡ f k) → (f n || any_below n f) ≡ f k
     go (yes q) one =
         ap₂ ◌||◌ (ap f (inv q)) (any_same n f (λ j. false) (λ j l. e j (λ d. omega (arith, q, d))) ∙ any_none n (λ j. false) (λ j. refl))
-        ∙ or_false (f k)
+        ∙ or-false (f k)
     go (no q) one = ap₂ ◌||◌ (e n (λ d. q (inv d))) (one (omega arith))
 
 pub any_true : (n k : ℕ) (f : ℕ → Bool) → k < n → f k ≡ true → any_below n f ≡ true
@@ -55,7 +55,7 @@ any_true (suc n) k f h e = go (ℕ_discrete k n) (λ l. any_true n k f l e)
   where
     go : Dec (k ≡ n) → (k < n → any_below n f ≡ true) → (f n || any_below n f) ≡ true
     go (yes q) more = ap (λ (b : Bool). b || any_below n f) (ap f (inv q) ∙ e)
-    go (no q) more = ap (λ (b : Bool). f n || b) (more (omega arith)) ∙ or_true (f n)
+    go (no q) more = ap (λ (b : Bool). f n || b) (more (omega arith)) ∙ or-true (f n)
 
 turn : (x y z : Bool) → (x || (y || z)) ≡ (y || (x || z))
 turn true true z = refl

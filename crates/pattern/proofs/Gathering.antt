@@ -1,6 +1,6 @@
 -- What may follow the symbols of a set, by the links: at once for those that lead to the next one only, one by one for the others. Assumes nothing.
 use mathlib.Core.Path.{◌≡◌, refl, ap, ap₂, subst, sym as inv, ◌∙◌}
-use mathlib.Core.Bool.{Bool, true, false, not, ◌&&◌, ◌||◌, false≢true, and_true, or_false, or_true, or_assoc}
+use mathlib.Core.Bool.{Bool, true, false, not, ◌&&◌, ◌||◌, false≢true, and-true, or-false, or-true, or_assoc}
 use mathlib.Core.List.{List}
 use Prim.Native.Nat.{ℕ, zero, suc, ◌<◌, ◌+◌, ◌*◌, ◌%◌, ◌^◌}
 use native.Mathlib.Omega.{arith}
@@ -12,7 +12,7 @@ use lib.Dec.{eqb}
 use lib.ListN.{get_or}
 use borrow.Author.Tests.{eqb-true}
 use Rattle.base.specs.Bits.{bit}
-use Rattle.base.proofs.Bits.{bit_or, bit_and, bit_zero, bit_same, bit_other, half_bit, digit_zero}
+use Rattle.base.proofs.Bits.{bit_or_law, bit_and_law, bit_zero, bit_same, bit_other, half_bit, digit_zero}
 use Rattle.base.proofs.Says.{and_both, and_false}
 use Rattle.pattern.specs.Automaton.{kept_if}
 use Rattle.pattern.specs.Links.{Without, Outside, any_below, leads, Gathers, Simple, Closed}
@@ -68,7 +68,7 @@ module _ (links : List ℕ) where
       own_follows : test ≡ true → Follows k
       own_follows t j i l p q =
           let led : bit after i ≡ true = g i ∙ any_true 64 j (λ m. bit (get_or links k 0) m && bit (get_or links m 0) i) l (rw (p, q)) in
-          (and_both (bit after i) (bit (get_or links k 0) i) (inv (bit_and after (get_or links k 0) i) ∙ ap (λ (m : ℕ). bit m i) (eqb-true _ _ t) ∙ led)).1
+          (and_both (bit after i) (bit (get_or links k 0) i) (inv (bit_and_law after (get_or links k 0) i) ∙ ap (λ (m : ℕ). bit m i) (eqb-true _ _ t) ∙ led)).1
 
       at : (n : ℕ) → Dec (n ≡ k) → (b : Bool) → bit S n ≡ b → (b || (test && bit (2 ^ k) n)) ≡ true → Follows n
       at n d true q t = here.follows n q
@@ -133,7 +133,7 @@ module _ (links : List ℕ) (S : ℕ) where
         (ap (λ (n : ℕ). bit n i) (e ∙ shl_exact {a = A} 63 1 64 small (omega arith)) ∙ shifted links A (λ k q. simple.next k (member k q)) small i)
         ∙ inv
         (any_same 64 (λ j. bit S j && bit (get_or links j 0) i) (λ j. (bit A j && bit (get_or links j 0) i) || (bit left j && bit (get_or links j 0) i))
-        (λ j l. inv (split (bit S j) (bit M j) (bit A j) (bit left j) (bit (get_or links j 0) i) (bit_and S M j) (others.members j)))
+        (λ j l. inv (split (bit S j) (bit M j) (bit A j) (bit left j) (bit (get_or links j 0) i) (bit_and_law S M j) (others.members j)))
         ∙ any_or 64 (λ j. bit A j && bit (get_or links j 0) i) (λ j. bit left j && bit (get_or links j 0) i));
   }
     where
@@ -144,10 +144,10 @@ module _ (links : List ℕ) (S : ℕ) where
       small = omega (arith, simple.small, and_le_r S M)
 
       member : (k : ℕ) → bit A k ≡ true → bit M k ≡ true
-      member k q = (and_both (bit S k) (bit M k) (inv (bit_and S M k) ∙ q)).1
+      member k q = (and_both (bit S k) (bit M k) (inv (bit_and_law S M k) ∙ q)).1
 
       split : (s m a b y : Bool) → a ≡ (s && m) → b ≡ (s && not m) → ((a && y) || (b && y)) ≡ (s && y)
-      split true true a b y p q = rw (q, p) (or_false y)
+      split true true a b y p q = rw (q, p) (or-false y)
       split true false a b y p q = rw (q, p)
       split false m a b y p q = rw (q, p)
 
@@ -155,7 +155,7 @@ module _ (links : List ℕ) (S : ℕ) where
     gathered_one : {k rest : ℕ} → (k < 64) × (bit left k ≡ true) → Without left k rest → Gathering links S rest (bit_or found (get_or links k 0))
     gathered_one {k} {rest} member w = record {
       leading = λ i.
-          ap (λ (b : Bool). b || leads (λ j. get_or links j 0) rest i) (bit_or found (get_or links k 0) i)
+          ap (λ (b : Bool). b || leads (λ j. get_or links j 0) rest i) (bit_or_law found (get_or links k 0) i)
           ∙ or_assoc (bit found i) (bit (get_or links k 0) i) (leads (λ j. get_or links j 0) rest i)
           ∙ ap (λ (b : Bool). bit found i || b)
           (ap (λ (b : Bool). (b && bit (get_or links k 0) i) || leads (λ j. get_or links j 0) rest i) (inv member.1)
@@ -175,12 +175,12 @@ module _ (links : List ℕ) (S : ℕ) where
         F = bit_or found (get_or links k 0)
 
         one : (i j : ℕ) → bit F i ≡ false → j < 64 → (x y : Bool) → bit cover j ≡ x → bit (get_or links j 0) i ≡ y → ((bit rest j && not x) && y) ≡ (bit rest j && y)
-        one i j z l false y p q = ap (λ (b : Bool). b && y) (and_true (bit rest j))
+        one i j z l false y p q = ap (λ (b : Bool). b && y) (and-true (bit rest j))
         one i j z l true false p q = and_false (bit rest j && false) ∙ inv (and_false (bit rest j))
         one i j z l true true p q =
             let both = and_both (bit closed k) (bit (get_or links k 0) j) (inv (bit_kept (bit closed k) (get_or links k 0) j) ∙ ap (λ (n : ℕ). bit n j) (inv e) ∙ p) in
             let led = c.follows k both.0 j i l both.1 q in
-            absurd (false≢true (inv z ∙ bit_or found (get_or links k 0) i ∙ ap (λ (b : Bool). bit found i || b) led ∙ or_true (bit found i)))
+            absurd (false≢true (inv z ∙ bit_or_law found (get_or links k 0) i ∙ ap (λ (b : Bool). bit found i || b) led ∙ or-true (bit found i)))
 
         at : (i : ℕ) (b : Bool) → bit F i ≡ b → (bit F i || leads (λ j. get_or links j 0) left' i) ≡ (bit F i || leads (λ j. get_or links j 0) rest i)
         at i true z = rw z
@@ -192,7 +192,7 @@ module _ (links : List ℕ) (S : ℕ) where
     pub gathering_end : left ≡ 0 → Gathers links S found
     unfolding any_below
     gathering_end z i =
-        inv (or_false (bit found i))
+        inv (or-false (bit found i))
         ∙ ap (λ (b : Bool). bit found i || b) (inv (none i 64))
         ∙ ap (λ (n : ℕ). bit found i || leads (λ j. get_or links j 0) n i) (inv z)
         ∙ here.leading i

@@ -13,7 +13,7 @@ use lib.Dec.{eqb}
 use lib.ListN.{length, get_or, set, length-set}
 use lib.Seq.{get_or-set_same, get_or-set_other}
 use Rattle.base.specs.Bits.{bit}
-use Rattle.base.proofs.Bits.{bit_and, bit_xor, either, bit_zero, bit_same, bit_other, half_bit, digit_zero, same_members}
+use Rattle.base.proofs.Bits.{bit_and_law, bit_xor_law, either, bit_zero, bit_same, bit_other, half_bit, digit_zero, same_members}
 use Rattle.pattern.specs.Automaton.{kept_if, over}
 use Rattle.pattern.specs.Links.{Without, Outside, Adds}
 
@@ -47,7 +47,7 @@ shl_one k h = shl_exact {a = 1} 1 k 64 (omega arith) (omega arith) ∙ one-mul (
 
 module _ (S k : ℕ) (member : bit S k ≡ true) where
   met : bit_and S (2 ^ k) ≡ 2 ^ k
-  met = same_members (bit_and S (2 ^ k)) (2 ^ k) (λ i. bit_and S (2 ^ k) i ∙ at i (ℕ_discrete i k))
+  met = same_members (bit_and S (2 ^ k)) (2 ^ k) (λ i. bit_and_law S (2 ^ k) i ∙ at i (ℕ_discrete i k))
     where
       at : (i : ℕ) → Dec (i ≡ k) → (bit S i && bit (2 ^ k) i) ≡ bit (2 ^ k) i
       at i (yes e) = rw (e, member)
@@ -60,8 +60,8 @@ module _ (S k : ℕ) (member : bit S k ≡ true) where
   pub without_member : (r : ℕ) → r ≡ bit_xor S (2 ^ k) → Without S k r
   without_member r e = record {
     fewer = omega (arith, e, xor_add_and S (2 ^ k), met, pow_pos k);
-    gone = ap (λ (x : ℕ). bit x k) e ∙ bit_xor S (2 ^ k) k ∙ rw (member, bit_same k);
-    others = λ i d. ap (λ (x : ℕ). bit x i) e ∙ bit_xor S (2 ^ k) i ∙ rw (bit_other k i d) (same (bit S i));
+    gone = ap (λ (x : ℕ). bit x k) e ∙ bit_xor_law S (2 ^ k) k ∙ rw (member, bit_same k);
+    others = λ i d. ap (λ (x : ℕ). bit x i) e ∙ bit_xor_law S (2 ^ k) i ∙ rw (bit_other k i d) (same (bit S i));
   }
     where
       same : (b : Bool) → either b false ≡ b
@@ -72,7 +72,7 @@ module _ (S k : ℕ) (member : bit S k ≡ true) where
 
 module _ (S T : ℕ) where
   inner : bit_and S (bit_and S T) ≡ bit_and S T
-  inner = same_members (bit_and S (bit_and S T)) (bit_and S T) (λ i. bit_and S (bit_and S T) i ∙ ap (λ (b : Bool). bit S i && b) (bit_and S T i) ∙ twice (bit S i) (bit T i) ∙ inv (bit_and S T i))
+  inner = same_members (bit_and S (bit_and S T)) (bit_and S T) (λ i. bit_and_law S (bit_and S T) i ∙ ap (λ (b : Bool). bit S i && b) (bit_and_law S T i) ∙ twice (bit S i) (bit T i) ∙ inv (bit_and_law S T i))
     where
       twice : (s t : Bool) → (s && (s && t)) ≡ (s && t)
       twice true t = refl
@@ -81,7 +81,7 @@ module _ (S T : ℕ) where
   pub outside_of : Outside S T (bit_xor S (bit_and S T))
   outside_of = record {
     fewer = omega (arith, xor_add_and S (bit_and S T), inner);
-    members = λ i. bit_xor S (bit_and S T) i ∙ ap (either (bit S i)) (bit_and S T i) ∙ apart (bit S i) (bit T i);
+    members = λ i. bit_xor_law S (bit_and S T) i ∙ ap (either (bit S i)) (bit_and_law S T i) ∙ apart (bit S i) (bit T i);
   }
     where
       apart : (s t : Bool) → either s (s && t) ≡ (s && not t)

@@ -8,7 +8,7 @@ use native.Mathlib.Decide.{ℕ_discrete, dec_lt}
 use lib.ListN.{length, drop, get_or, length-drop, drop_of_length-le}
 use lib.Bits.{bit_or}
 use Rattle.base.specs.Bits.{bit}
-use Rattle.base.proofs.Bits.{bit_or, bit_zero, bit_same, bit_other}
+use Rattle.base.proofs.Bits.{bit_or_law, bit_zero, bit_same, bit_other}
 use Rattle.base.proofs.Lists.{left_next}
 use Rattle.pattern.specs.declared.symbol.SymbolRead.{SymbolRead}
 use Rattle.pattern.specs.declared.symbol.SymbolRead.TheVariants.{BadSymbol, SymbolTo}
@@ -154,7 +154,7 @@ module _ (s : List ℕ) (c : ℕ) where
 
         module _ {e own : ℕ} {hit : Bool} (q : y ≡ SymbolTo e hit) (room : k < 64) (o : own ≡ kept_if hit (1 * 2 ^ k % 2 ^ 64)) where
           bits : (i : ℕ) → bit (bit_or found own) i ≡ (bit found i || (hit && bit (2 ^ k) i))
-          bits i = bit_or found own i ∙ ap (λ (b : Bool). bit found i || b) (ap (λ (n : ℕ). bit n i) (o ∙ ap (kept_if hit) (shl_one k room)) ∙ bit_kept hit (2 ^ k) i)
+          bits i = bit_or_law found own i ∙ ap (λ (b : Bool). bit found i || b) (ap (λ (n : ℕ). bit n i) (o ∙ ap (kept_if hit) (shl_one k room)) ∙ bit_kept hit (2 ^ k) i)
 
           other_bit : (i : ℕ) → (i ≡ k → ⊥) → bit (bit_or found own) i ≡ bit found i
           other_bit i d = bits i ∙ ap (λ (b : Bool). bit found i || (hit && b)) (bit_other k i d) ∙ off (bit found i) hit

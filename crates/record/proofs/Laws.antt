@@ -1,7 +1,7 @@
 -- One law for each way out of the functions of src/.
 use Prim.Native.Nat.{ℕ, suc, ◌+◌, ◌-◌, ◌≤◌, ◌<◌}
 use mathlib.Core.List.{List, [], ◌∷◌, ◌++◌}
-use mathlib.Core.Bool.{Bool, true, false, not, ◌&&◌, ◌||◌, or_assoc, or_false}
+use mathlib.Core.Bool.{Bool, true, false, not, ◌&&◌, ◌||◌, or_assoc, or-false}
 use mathlib.Core.Path.{◌≡◌, refl, sym, ap, ◌∙◌}
 use native.Mathlib.Omega.{arith}
 use lib.ListN.{length, get_or, take, drop, length-take, drop_of_length-le}
@@ -140,4 +140,4 @@ pub reserved_any : (s : List ℕ)
     → (same_name s (bytes "AND") || same_name s (bytes "ANY") || same_name s (bytes "EVERY") || same_name s (bytes "FALSE") || same_name s (bytes "LIKE")
     || same_name s (bytes "NOT") || same_name s (bytes "NULL") || same_name s (bytes "OR") || same_name s (bytes "TRUE")) ≡ is_reserved s
 unfolding is_reserved among reserved_words
-reserved_any s = simp (or_assoc, or_false)
+reserved_any s = simp (or_assoc, or-false)

@@ -3,7 +3,7 @@ use Prim.Native.Nat.{ℕ, zero, suc, ◌+◌, ◌-◌, ◌≤◌, ◌<◌}
 use mathlib.Core.List.{List, ◌++◌}
 use mathlib.Core.Path.{◌≡◌, refl, sym, ap, ◌∙◌}
 use native.Mathlib.Omega.{arith}
-use native.Mathlib.Nat.{add_assoc, add_zero}
+use native.Mathlib.Nat.{add_assoc, add-zero}
 use lib.ListN.{length, take, length-append}
 use lib.Seq.{drop-append-add}
 use Rattle.base.specs.Part.{part}
@@ -61,7 +61,7 @@ behind p s zero at h = absurd (omega arith)
 behind p s (suc f) at h = behind_step p s at (λ next a b. behind p s f next (omega arith)) (record_at s at) refl
 
 pub records_behind : (p s : List ℕ) → records (p ++ s) (length p) ≡ shift (length p) (records s 0)
-records_behind p s = ap (records (p ++ s)) (sym (add_zero (length p))) ∙ behind p s (suc (length s)) 0 (omega arith)
+records_behind p s = ap (records (p ++ s)) (sym (add-zero (length p))) ∙ behind p s (suc (length s)) 0 (omega arith)
 
 -- a first record, and those behind it
 pub records_first : {kind start len : ℕ} (w s : List ℕ) → record_at (w ++ s) 0 ≡ Whole kind start len (length w)

@@ -2,7 +2,7 @@
 use Prim.Native.Nat.{ℕ, ◌+◌, ◌*◌, ◌%◌, ◌≤◌, ◌<◌}
 use mathlib.Core.Path.{◌≡◌, refl, ◌∙◌}
 use mathlib.Core.List.{List, [], ◌∷◌}
-use mathlib.Core.Bool.{Bool, true, false, ◌&&◌, ◌||◌, false≢true, or_true}
+use mathlib.Core.Bool.{Bool, true, false, ◌&&◌, ◌||◌, false≢true, or-true}
 use native.Mathlib.Omega.{arith}
 use lib.ListN.{length, get_or, take, drop}
 use lib.Dec.{leb, ltb}
@@ -123,8 +123,8 @@ string_value v s l n = go (leb v 0xD7FF) refl (leb v 0xfffd) refl (leb 0x10000 v
     go : (t : Bool) → leb v 0xD7FF ≡ t → (u : Bool) → leb v 0xfffd ≡ u → (w : Bool) → leb 0x10000 v ≡ w → (t || (leb 0xE000 v && leb v 0x10FFFF)) ≡ true
         → ((leb 0x20 v && t) || ((leb 0xe000 v && u) || (w && leb v 0x10ffff))) ≡ true
     go true e u f w g h = rw (le-leb 0x20 v l)
-    go false e true f w g h = rw ((and_both (leb 0xE000 v) (leb v 0x10FFFF) h).0, or_true (leb 0x20 v && false))
-    go false e false f true g h = rw ((and_both (leb 0xE000 v) (leb v 0x10FFFF) h).1, or_true (leb 0xe000 v && false), or_true (leb 0x20 v && false))
+    go false e true f w g h = rw ((and_both (leb 0xE000 v) (leb v 0x10FFFF) h).0, or-true (leb 0x20 v && false))
+    go false e false f true g h = rw ((and_both (leb 0xE000 v) (leb v 0x10FFFF) h).1, or-true (leb 0xe000 v && false), or-true (leb 0x20 v && false))
     go false e false f false g h = absurd (n (omega (arith, leb-false v 0xfffd f)) (omega (arith, leb-false 0x10000 v g)))
 
 module _ (q : List ℕ) (at : ℕ) where

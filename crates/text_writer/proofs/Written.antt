@@ -5,7 +5,7 @@ use mathlib.Core.Bool.{Bool, true, false}
 use mathlib.Core.Path.{◌≡◌, refl, sym, ap, ◌∙◌}
 use native.Mathlib.Omega.{arith}
 use native.Mathlib.Numerals.{add-one}
-use native.Mathlib.Nat.{add-suc, suc-add, add_zero}
+use native.Mathlib.Nat.{add-suc, suc-add, add-zero}
 use lib.ListN.{length, set, take, get_or, length-append}
 use lib.Seq.{sets, length-sets, sets-eq, set_out, take-suc, take_all, take-append_seam}
 use lib.Dec.{leb}
@@ -14,7 +14,7 @@ use Rattle.text_writer.specs.Written.{Written}
 
 -- ---- stores one after the other
 pub stores_append : (l : List ℕ) (i : ℕ) (x y : List ℕ) → sets (sets l i x) (i + length x) y ≡ sets l i (x ++ y)
-stores_append l i [] y = ap (λ (k : ℕ). sets l k y) (add_zero i)
+stores_append l i [] y = ap (λ (k : ℕ). sets l k y) (add-zero i)
 stores_append l i (a ∷ x) y = ap (λ (k : ℕ). sets (sets (set l i a) (suc i) x) k y) (add-suc i (length x) ∙ sym (suc-add i (length x))) ∙ stores_append (set l i a) (suc i) x y
 
 -- past the end nothing is stored

@@ -4,7 +4,7 @@ use mathlib.Core.List.{List, [], ◌∷◌}
 use mathlib.Core.Bool.{Bool, true, false, not, ◌&&◌, ◌||◌}
 use mathlib.Core.Path.{◌≡◌, refl, sym, ap, ◌∙◌}
 use native.Mathlib.Numerals.{add-one}
-use native.Mathlib.Nat.{add_zero}
+use native.Mathlib.Nat.{add-zero}
 use native.Mathlib.Omega.{arith}
 use lib.Seq.{drop-drop, take_all}
 use lib.ListN.{length, get_or, take, drop, length-drop}
@@ -102,7 +102,7 @@ reaches_same s at next (onward {p} r z) h = reaches_same s at p r (omega arith) 
 -- over a run of ASCII bytes it moves on by as many
 ascii_reached : (s : List ℕ) (at n : ℕ) → n ≤ length s - at → all_ascii s at n ≡ true → Reaches s at (at + n)
 unfolding all_ascii
-ascii_reached s at zero h e = rw (add_zero at) here
+ascii_reached s at zero h e = rw (add-zero at) here
 ascii_reached s at (suc n) h e =
     let both = and_both (all_ascii s at n) (ltb (byte_at s (at + n)) 0x80) e in
     let low : get_or s (at + n) 0 < 0x80 = ltb-true _ _ both.1 in
@@ -192,7 +192,7 @@ unfolding sequence_at
 sequence_dropped s k p = ap (sequence_in table) (drop-drop p k s)
 
 reaches_dropped : (s : List ℕ) (k : ℕ) {p : ℕ} → Reaches (drop k s) 0 p → Reaches s k (k + p)
-reaches_dropped s k here = rw (add_zero k) here
+reaches_dropped s k here = rw (add-zero k) here
 reaches_dropped s k (onward {p} r z) =
     let n = sequence_at (drop k s) p in
     let e : k + p + n ≡ k + (p + n) = omega arith in

@@ -1,7 +1,7 @@
 -- The table's answer, from what its rows say of a first byte. Assumes nothing.
 use Prim.Native.Nat.{ℕ, zero, suc, ◌+◌, ◌-◌, ◌≤◌, ◌<◌}
 use mathlib.Core.List.{List, [], ◌∷◌}
-use mathlib.Core.Bool.{Bool, true, false, ◌&&◌, false≢true, and_true, and_assoc}
+use mathlib.Core.Bool.{Bool, true, false, ◌&&◌, false≢true, and-true, and_assoc}
 use mathlib.Core.Path.{◌≡◌, refl, ap, sym, ◌∙◌}
 use native.Mathlib.Omega.{arith}
 use native.Mathlib.Decide.{dec_lt}
@@ -241,7 +241,7 @@ module _ (s : List ℕ) (at : ℕ) (inside : at < length s) where
       unfolding continuations fits
       two_by h {r} {t} e d = ap (λ (x : Bool). pick x 2 0) (sym d) ∙ sym
           (by_second s at inside byte_two 2 lead_of_two h (omega arith)
-          ∙ rw (← low_other _ byte_two (λ q. omega arith) (λ q. omega arith), ← high_other _ byte_two (λ q. omega arith) (λ q. omega arith), ← e, and_true r))
+          ∙ rw (← low_other _ byte_two (λ q. omega arith) (λ q. omega arith), ← high_other _ byte_two (λ q. omega arith) (λ q. omega arith), ← e, and-true r))
 
   module _ (low : 0xE0 ≤ get_or s at 0) (high : get_or s at 0 < 0xF0) where
     byte_three : get_or s at 0 < 256
@@ -258,7 +258,7 @@ module _ (s : List ℕ) (at : ℕ) (inside : at < length s) where
     unfolding continuations fits
     three_by h {q} {r} {t} e f d = ap (λ (x : Bool). pick x 3 0) (sym d) ∙ sym
         (by_second s at inside byte_three 3 lead_of_three h (omega arith)
-        ∙ rw (← e, continues_by s (at + 2) 0 (omega arith), ← f, and_true r))
+        ∙ rw (← e, continues_by s (at + 2) 0 (omega arith), ← f, and-true r))
 
   module _ (low : 0xF0 ≤ get_or s at 0) (byte : get_or s at 0 < 256) where
     pub four_none : 0xF5 ≤ get_or s at 0 → 0 ≡ sequence_at s at
@@ -282,7 +282,7 @@ module _ (s : List ℕ) (at : ℕ) (inside : at < length s) where
           let third : at + 2 + 1 ≡ at + 3 = omega arith in
           ap (λ (x : Bool). pick x 4 0) (sym d) ∙ sym
           (by_second s at inside byte 4 lead_of_four h (omega arith)
-          ∙ rw (← e, continues_by s (at + 2) 1 (omega arith), third, continues_by s (at + 3) 0 (omega arith), ← f, ← g, and_true r, and_assoc p q r))
+          ∙ rw (← e, continues_by s (at + 2) 1 (omega arith), third, continues_by s (at + 3) 0 (omega arith), ← f, ← g, and-true r, and_assoc p q r))
 
 -- the check, one step
 pub ill_formed_at : (s : List ℕ) (at : ℕ) → ill_formed_from s at ≡ ill_formed_step s at (ill_formed_from s)

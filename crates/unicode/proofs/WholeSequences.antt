@@ -4,7 +4,7 @@ use mathlib.Core.List.{List}
 use mathlib.Core.Bool.{Bool, true, false, not, ◌&&◌, ◌||◌}
 use mathlib.Core.Path.{◌≡◌, refl, sym, ◌∙◌}
 use native.Mathlib.Numerals.{add-one}
-use native.Mathlib.Nat.{add_zero}
+use native.Mathlib.Nat.{add-zero}
 use native.Mathlib.Omega.{arith}
 use lib.ListN.{length, get_or}
 use lib.Dec.{ltb, leb, eqb}
@@ -106,7 +106,7 @@ whole_more s at i e f = rw (add-one i, ← e, ← f)
 
 whole_joined : (s : List ℕ) (at n m : ℕ) → all_whole s at n ≡ true → all_whole s (at + n) m ≡ true → all_whole s at (n + m) ≡ true
 unfolding all_whole
-whole_joined s at n zero h k = rw (add_zero n) h
+whole_joined s at n zero h k = rw (add-zero n) h
 whole_joined s at n (suc m) h k =
     let p = and_both (all_whole s (at + n) m) (whole_at s (at + n + m)) k in
     let e : n + suc m ≡ suc (n + m) = omega arith in

@@ -4,7 +4,7 @@ use Prim.Native.Nat.{ℕ, zero, suc, ◌+◌, ◌-◌, ◌≤◌, ◌<◌}
 use mathlib.Core.List.{List, ◌∷◌}
 use mathlib.Core.Bool.{Bool, true, false, not, ◌&&◌}
 use mathlib.Core.Path.{◌≡◌, refl, sym, ◌∙◌}
-use native.Mathlib.Nat.{add_zero}
+use native.Mathlib.Nat.{add-zero}
 use native.Mathlib.Omega.{arith}
 use lib.ListN.{length}
 use lib.Dec.{eqb}
@@ -119,7 +119,7 @@ module _ (c : Class) (f : Form) (a : List ℕ) (at : ℕ) (g : Form) (b : List �
 
   -- the walk over the sequences of the first
   reached_onward : {k : ℕ} → Reaches a at k → (i : ℕ) → at + i ≡ k → i ≤ n → Onward (units_from f a at) (units_from g b beside) (units_from f a (at + i)) (units_from g b (beside + i))
-  reached_onward here i e h = let z : i ≡ 0 = omega arith in rw (z, add_zero at, add_zero beside) (record { same = refl; fewer = omega arith })
+  reached_onward here i e h = let z : i ≡ 0 = omega arith in rw (z, add-zero at, add-zero beside) (record { same = refl; fewer = omega arith })
   reached_onward (onward {p} r z) i e h =
       let l = reaches_begins r in
       let x : at + (p - at) ≡ p = omega arith in
@@ -138,7 +138,7 @@ bytes_units c (Encoded n) h s at i k = absurd (apart h)
 module _ (f : Form) (a : List ℕ) (at : ℕ) (g : Form) (b : List ℕ) (beside : ℕ) where
   pub no_characters : Along f a at g b beside 0
   no_characters =
-      record { within_left = omega arith; within_right = omega arith; onward = rw (add_zero at, add_zero beside) (record { same = refl; fewer = omega arith }) }
+      record { within_left = omega arith; within_right = omega arith; onward = rw (add-zero at, add-zero beside) (record { same = refl; fewer = omega arith }) }
 
   pub bytes_skipped : {l r : Bool} → l ≡ is_bytes f → r ≡ is_bytes g → (l && r) ≡ true → {n : ℕ} → Common (record { any = true; high = 0xEE }) a at b beside n → Along f a at g b beside n
   bytes_skipped {l} {r} lefts rights test {n} run =

@@ -4,7 +4,7 @@ use mathlib.Core.List.{List, ◌∷◌}
 use mathlib.Core.Bool.{Bool, true, false, not, ◌&&◌}
 use mathlib.Core.Path.{◌≡◌, refl, sym, ◌∙◌}
 use native.Mathlib.Numerals.{add-one}
-use native.Mathlib.Nat.{add_zero}
+use native.Mathlib.Nat.{add-zero}
 use native.Mathlib.Omega.{arith}
 use lib.ListN.{length}
 use lib.Dec.{eqb, leb}
@@ -101,7 +101,7 @@ module _ (c : Class) where
   common_joined : (a : List ℕ) (at : ℕ) (b : List ℕ) (beside n m : ℕ) → common_in c a at b beside n ≡ true → common_in c a (at + n) b (beside + n) m ≡ true
       → common_in c a at b beside (n + m) ≡ true
   unfolding common_in
-  common_joined a at b beside n zero h k = rw (add_zero n) h
+  common_joined a at b beside n zero h k = rw (add-zero n) h
   common_joined a at b beside n (suc m) h k =
       let p = and_both (common_in c a (at + n) b (beside + n) m) (same_in c (byte_at a (at + n + m)) (byte_at b (beside + n + m))) k in
       let e : n + suc m ≡ suc (n + m) = omega arith in
@@ -136,7 +136,7 @@ module _ (c : Class) (f : Form) (a : List ℕ) (at : ℕ) (g : Form) (b : List �
   pub common_onward : (n : ℕ) → n ≤ length a - at → n ≤ length b - beside → common_in c a at b beside n ≡ true
       → Onward (units_from f a at) (units_from g b beside) (units_from f a (at + n)) (units_from g b (beside + n))
   unfolding common_in
-  common_onward zero l m h = rw (add_zero at, add_zero beside) (record { same = refl; fewer = omega arith })
+  common_onward zero l m h = rw (add-zero at, add-zero beside) (record { same = refl; fewer = omega arith })
   common_onward (suc n) l m h =
       let p = and_both (common_in c a at b beside n) (same_in c (byte_at a (at + n)) (byte_at b (beside + n))) h in
       let x : at + suc n ≡ at + n + 1 = omega arith in

@@ -16,4 +16,4 @@ returns-in-Hex c = simp (c.in-Hex.is, c.hex_literal_of.ensures)
 
 pub returns-in-Real : goal.returns-in-Real
 unfolding number_literal
-returns-in-Real c = simp (c.in-Real.is, c.Real-of.ensures)
+returns-in-Real c = simp (c.in-Real.is, c.real_of.ensures)

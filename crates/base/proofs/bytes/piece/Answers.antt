@@ -3,7 +3,7 @@ use borrow.Author.Rules.{rules}
 use Rattle.base.proofs.bytes.piece.Goals as goal
 
 pub returns-then-s-start : goal.returns-then-s-start
-returns-then-s-start c = part_past c.before.before.args.s.now c.before.before.args.start c.before.before.args.len c.if1.true
+returns-then-s-start c = part_past c.args.s.now c.args.start c.args.len c.if-s-start.true
 
 pub returns-then-s-start-2 : goal.returns-then-s-start-2
 returns-then-s-start-2 c = part_rest c.args.s.now c.args.start c.args.len c.if-s-start-2.true

@@ -8,4 +8,4 @@ pub unsigned_of-requires : goal.unsigned_of-requires
 unsigned_of-requires c = rw c.piece.ensures (part_short c.args.s.now 0 8)
 
 pub returns : goal.returns
-returns c = c.Unsigned-of.ensures.0 ∙ ap unsigned c.piece.ensures
+returns c = c.unsigned_of.ensures.0 ∙ ap unsigned c.piece.ensures

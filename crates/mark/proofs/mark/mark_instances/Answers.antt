@@ -20,7 +20,7 @@ pub count_answer-totals-requires : goal.count_answer-totals-requires
 count_answer-totals-requires c = let m = law.marking_few _ _ _ _ _ _ _ _ c.loop-start.invariant.0 c.record_at.ensures c.in-Whole.is in omega arith
 
 pub overflow_add-i : goal.overflow_add-i
-overflow_add-i c = let m = law.marking_room _ _ _ _ _ _ _ _ c.loop-start.invariant.0 c.record_at.ensures c.in-Whole.is in omega (arith, c.well-formed)
+overflow_add-i c = let m = law.marking_room _ _ _ _ _ _ _ _ c.loop-start.invariant.0 c.record_at.ensures c.in-Whole.is in omega (arith, c.well_formed)
 
 pub loop-start-smaller : goal.loop-start-smaller
 loop-start-smaller c = search reach.step_less

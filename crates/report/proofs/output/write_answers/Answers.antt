@@ -16,7 +16,7 @@ pub overflow_add-count : goal.overflow_add-count
 overflow_add-count c = let m = law.writing_room _ _ _ _ _ _ _ _ _ c.loop-start.invariant.0 c.record_at.ensures c.in-Whole.is in omega arith
 
 pub count_answer-totals-requires : goal.count_answer-totals-requires
-count_answer-totals-requires c = let m = law.writing_few _ _ _ _ _ _ _ _ _ c.loop-start.invariant.0 c.record_at.ensures c.in-Whole.is in omega (arith, c.well-formed)
+count_answer-totals-requires c = let m = law.writing_few _ _ _ _ _ _ _ _ _ c.loop-start.invariant.0 c.record_at.ensures c.in-Whole.is in omega (arith, c.well_formed)
 
 pub loop-start-smaller : goal.loop-start-smaller
 loop-start-smaller c = search reach.step_less
