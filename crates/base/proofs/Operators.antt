@@ -10,7 +10,7 @@ use borrow.Author.Tests.{ltb-false}
 use Rattle.base.specs.Pick.{pick}
 use Rattle.base.specs.Order.{holds, order_of_whole}
 use Rattle.base.specs.declared.order.Order.{Order}
-use Rattle.base.specs.declared.order.Order.TheVariants.{Before, Same, After}
+use Rattle.base.specs.declared.order.Order.TheVariants.{Before, Same, After, Undecided}
 use Rattle.base.specs.declared.order.Operator.{Operator}
 use Rattle.base.specs.declared.order.Operator.TheVariants.{Equal, Unequal, Less, AtMost, Greater, AtLeast}
 use Rattle.base.proofs.Says.{Says, apart}
@@ -70,21 +70,27 @@ module _ {m n : ℤ} where
   says Equal Before (before h) = never (unlike h)
   says Equal Same (same e) = yes e
   says Equal After (after h) = never (λ e. <ℤ_irrefl (subst (λ (k : ℤ). n <ℤ k) e h))
+  says Equal Undecided s = elim s [ ]
   says Unequal Before (before h) = yes (unlike h)
   says Unequal Same (same e) = never (λ f. f e)
   says Unequal After (after h) = yes (λ e. <ℤ_irrefl (subst (λ (k : ℤ). n <ℤ k) e h))
+  says Unequal Undecided s = elim s [ ]
   says Less Before (before h) = yes h
   says Less Same (same e) = never (λ h. unlike h e)
   says Less After (after h) = never (λ k. clash_ℤ h (weaken k))
+  says Less Undecided s = elim s [ ]
   says AtMost Before (before h) = yes (weaken h)
   says AtMost Same (same e) = yes (alike e)
   says AtMost After (after h) = never (λ k. clash_ℤ h k)
+  says AtMost Undecided s = elim s [ ]
   says Greater Before (before h) = never (λ k. clash_ℤ h (weaken k))
   says Greater Same (same e) = never (λ h. <ℤ_irrefl (subst (λ (k : ℤ). n <ℤ k) e h))
   says Greater After (after h) = yes h
+  says Greater Undecided s = elim s [ ]
   says AtLeast Before (before h) = never (λ k. clash_ℤ h k)
   says AtLeast Same (same e) = yes (subst (λ (k : ℤ). k ≤ℤ m) e (≤ℤ_refl m))
   says AtLeast After (after h) = yes (weaken h)
+  says AtLeast Undecided s = elim s [ ]
 
 -- an operator holds of two whole numbers exactly where they are so related
 pub whole_holds : (op : Operator) (m n : ℤ) → Says (holds op (order_of_whole m n)) (Relates op m n)
