@@ -4,7 +4,7 @@ use borrow.Author.Rules.{rules}
 use Rattle.unicode.proofs.text.ends_ascii.Goals as goal
 
 pub returns-then-n-ge16 : goal.returns-then-n-ge16
-returns-then-n-ge16 c = law.ends_block _ _ (omega arith) (omega arith) c.all_IsAscii.ensures
+returns-then-n-ge16 c = law.ends_block _ _ (omega arith) (omega arith) c.all_ascii.ensures
 
 pub returns-then-n-ge8 : goal.returns-then-n-ge8
 returns-then-n-ge8 c = law.ends_two _ _ 8 (omega arith) (omega arith) c.all_ascii-then-n-ge8.ensures c.all_ascii-then-n-ge8-2.ensures

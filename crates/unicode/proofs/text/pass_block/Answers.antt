@@ -4,7 +4,7 @@ use borrow.Author.Rules.{rules}
 use Rattle.unicode.proofs.text.pass_block.Goals as goal
 
 pub returns-then-all_ascii : goal.returns-then-all_ascii
-returns-then-all_ascii c = law.block_passed _ _ _ 16 (omega arith) (omega arith) c.requires.1 c.all_IsAscii.ensures c.if-all_ascii.true
+returns-then-all_ascii c = law.block_passed _ _ _ 16 (omega arith) (omega arith) c.requires.1 c.all_ascii.ensures c.if-all_ascii.true
 
 pub returns-then-next-at : goal.returns-then-next-at
 returns-then-next-at c = search law.moved_passed
