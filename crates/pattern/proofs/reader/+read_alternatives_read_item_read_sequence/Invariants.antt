@@ -1,0 +1,25 @@
+use Rattle.std.proofs.Common.{◌≡◌, length, drop, ℕ, ◌+◌, ◌-◌, ◌*◌, ◌<◌, ◌≤◌}
+use Rattle.pattern.specs.Reading.{parse, symbol_item, ends, well_formed}
+use Rattle.pattern.specs.Answers.{GivesPart, ReadsRepeat, ReadsAlternatives, ReadsSequence, ReadsItem, GivesPattern}
+use Rattle.pattern.proofs.reader.+read_alternatives_read_item_read_sequence.Given as goal
+
+abbrev pub decreases-read_alternatives : goal.decreases-read_alternatives
+decreases-read_alternatives l = ?
+
+abbrev pub decreases-read_item : goal.decreases-read_item
+decreases-read_item l = ?
+
+abbrev pub decreases-read_sequence : goal.decreases-read_sequence
+decreases-read_sequence l = ?
+
+abbrev pub invariant-read_alternatives-loop-e : goal.invariant-read_alternatives-loop-e
+invariant-read_alternatives-loop-e l = ?
+
+abbrev pub decreases-read_alternatives-loop-e : goal.decreases-read_alternatives-loop-e
+decreases-read_alternatives-loop-e l = ?
+
+abbrev pub invariant-read_sequence-loop-links : goal.invariant-read_sequence-loop-links
+invariant-read_sequence-loop-links l = ?
+
+abbrev pub decreases-read_sequence-loop-links : goal.decreases-read_sequence-loop-links
+decreases-read_sequence-loop-links l = ?
