@@ -81,6 +81,17 @@ module _ {A B : Type 0} (s : ℕ) (k : A → B → Test) where
   both_agrees true true vi fl (faulty c p) (value y) fault good = (refl, refl)
   both_agrees true true vi fl (value x) (faulty d o) good fault = (refl, refl)
   both_agrees true true vi fl (value x) (value y) good good = tt
+  both_agrees false false vi fl x (faulty c p) i x9 = elim x9 [ ]
+  both_agrees false false vi fl x (value y) i x10 = elim x10 [ ]
+  both_agrees false true vi fl x unlike i x9 = elim x9 [ ]
+  both_agrees true false vi fl unlike y i _ = elim i [ ]
+  both_agrees true false vi fl (faulty c p) (faulty d o) i x10 = elim x10 [ ]
+  both_agrees true false vi fl (faulty c p) (value y) i x11 = elim x11 [ ]
+  both_agrees true false vi fl (value x) (faulty c p) i x12 = elim x12 [ ]
+  both_agrees true false vi fl (value x) (value y) i x13 = elim x13 [ ]
+  both_agrees true true vi fl unlike y i _ = elim i [ ]
+  both_agrees true true vi fl (faulty c p) unlike i x11 = elim x11 [ ]
+  both_agrees true true vi fl (value x) unlike i x13 = elim x13 [ ]
 
   -- LIKE's row is that of the left side alone
   like_agrees : (row : Bool) (vi fl : Verdict) (x : Read A) (y : Read B) → IndexFits vi x → ReadFits true fl y
@@ -91,6 +102,9 @@ module _ {A B : Type 0} (s : ℕ) (k : A → B → Test) where
   like_agrees true vi fl (faulty c p) (value y) fault good = (refl, refl)
   like_agrees true vi fl (value x) (faulty d o) good fault = (refl, refl)
   like_agrees true vi fl (value x) (value y) good good = tt
+  like_agrees true vi fl unlike y i r = elim i [ ]
+  like_agrees true vi fl (faulty c p) unlike i r = elim r [ ]
+  like_agrees true vi fl (value x) unlike i r = elim r [ ]
 
 -- ---- the left side
 data LeftFits : Shape → Verdict → Left → Type 0 where

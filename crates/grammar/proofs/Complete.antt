@@ -276,6 +276,9 @@ module _ (s : Scan) where
     unfolding GC.operand
     name_operand pl o t a = rw (name_no_literal t a, other t Name (Symbol OpenList) a refl) refl
 
+    literal_read : (pl : Bool) (o : Operator) (t u : Token) → Fits s scalar_literal t u → ReadsRight 32 0 u (GC.operand s pl o t)
+    literal_read pl o t u (one l) = right_literal pl o t l
+
     right_property_law : (pl : Bool) (o : Operator) (t u : Token) → Fits s property t u → same u (Symbol Dot) ≡ false → not pl && same u (Symbol OpenIndex) ≡ false → ReadsRight 32 0 u (GC.operand s pl o t)
     right_property_law pl o t u f d e = rw (name_operand pl o t (name_first t u f)) (plain_right u (GP.reference s (not pl) t) (plain_read (not pl) t u f d e))
 
@@ -293,11 +296,15 @@ module _ (s : Scan) where
         (rw (a, GC.elements)
         (reads_next n (suc (repeats f)) (s.next u) (GC.elements n s start (count + 1) (s.next (s.next t))) (elements_read n start (count + 1) (s.next (s.next t)) u b f c))))
 
+    list_closed : (t m u : Token) → literal (s.next t) ≡ true → (f : Fits s (many (then (is (Symbol Comma)) scalar_literal)) (s.next (s.next t)) m) → Fits s (is (Symbol CloseList)) m u
+        → ReadsRight 32 (suc (repeats f)) u (GC.array_literal s t)
+    unfolding GC.array_literal GC.list_from
+    list_closed t m u l f (one c) = rw (lit_no_close (s.next t) l) (elements_read 32 t.start 0 (s.next t) m l f c)
+
     right_list : (t u : Token) (f : Fits s array_literal_rule t u) → ReadsRight 32 (element_count f) u (GC.array_literal s t)
     unfolding GC.array_literal GC.list_from element_count
     right_list t u (join (one a) (join none (one c))) = rw c (refl, omega arith)
-    right_list t u (join (one a) (join (just (join (one l) f)) (one {t = m} c))) =
-        rw (lit_no_close (s.next t) l) (elements_read 32 t.start 0 (s.next t) m l f c)
+    right_list t u (join (one a) (join {m = m} (just (join (one l) f)) c)) = list_closed t m u l f c
 
     open_first : (t u : Token) → Fits s array_literal_rule t u → same t (Symbol OpenList) ≡ true
     open_first t u (join (one a) f) = a
@@ -362,24 +369,24 @@ module _ (s : Scan) where
     comparison_read t u (right (left (join f (join (one {t = m} e) g)))) d b =
         let o = equates_op (comparing m) e in let y = equates_operates (comparing m) e in
         compared 0 true true t m u o.0 (left_plain t m f (op_no_dot m y) (op_no_index m y)) o.1 (right_property_law true o.0 (s.next m) u g d refl)
-    comparison_read t u (right (right (left (join f (join (one {t = m} e) (one l)))))) d b =
+    comparison_read t u (right (right (left (join f (join (one {t = m} e) l))))) d b =
         let o = operates_op (comparing m) e in
-        compared 0 true true t m u o.0 (left_plain t m f (op_no_dot m e) (op_no_index m e)) o.1 (right_literal true o.0 (s.next m) l)
+        compared 0 true true t m u o.0 (left_plain t m f (op_no_dot m e) (op_no_index m e)) o.1 (literal_read true o.0 (s.next m) u l)
     comparison_read t u (right (right (right (left (join f (join (one {t = m} e) g)))))) d b =
         let o = operates_op (comparing m) e in
         compared 0 true true t m u o.0 (left_plain t m f (op_no_dot m e) (op_no_index m e)) o.1 (right_property_law true o.0 (s.next m) u g d refl)
-    comparison_read t u (right (right (right (right (left (join f (join (one {t = m} e) (one l)))))))) d b =
+    comparison_read t u (right (right (right (right (left (join f (join (one {t = m} e) l))))))) d b =
         let o = operates_op (comparing m) e in
-        compared 0 true false t m u o.0 (left_indexed t m f) o.1 (right_literal false o.0 (s.next m) l)
+        compared 0 true false t m u o.0 (left_indexed t m f) o.1 (literal_read false o.0 (s.next m) u l)
     comparison_read t u (right (right (right (right (right (left (join f (join (one {t = m} e) g)))))))) d b =
         let o = operates_op (comparing m) e in
         compared 0 true false t m u o.0 (left_indexed t m f) o.1 (right_property_law false o.0 (s.next m) u g d b)
     comparison_read t u (right (right (right (right (right (right (left (join f (join (one {t = m} e) g))))))))) d b =
         let o = operates_op (comparing m) e in
         compared 0 true false t m u o.0 (left_indexed t m f) o.1 (right_element o.0 (s.next m) u g)
-    comparison_read t u (right (right (right (right (right (right (right (left (join f (join (one {t = m} e) (one l))))))))))) d b =
+    comparison_read t u (right (right (right (right (right (right (right (left (join f (join (one {t = m} e) l)))))))))) d b =
         let o = operates_op (comparing m) e in
-        compared 0 false false t m u o.0 (left_many t m f (op_no_dot m e)) o.1 (right_literal false o.0 (s.next m) l)
+        compared 0 false false t m u o.0 (left_many t m f (op_no_dot m e)) o.1 (literal_read false o.0 (s.next m) u l)
     comparison_read t u (right (right (right (right (right (right (right (right (left (join f (join (one {t = m} e) g))))))))))) d b =
         let o = operates_op (comparing m) e in
         compared 0 false false t m u o.0 (left_many t m f (op_no_dot m e)) o.1 (right_property_law false o.0 (s.next m) u g d b)

@@ -193,16 +193,23 @@ module _ (s : Scan) where
         let i = join_op false m u o in
         from_more n (expr_count (join d k)) (ShortExpr (join d k)) false t m u (Inner i.0) c (op_clear m u o) i.1 refl (expr_read n u e (join d k) x)
 
+    -- a group of one comparison, closed: what follows it, where the groups behind it are read by `behind`
+    group_closed : (n : ℕ) → ((t e : Token) (f : Groups t e) → same e End ≡ true → ReadsQuery n (group_count f) (ShortGroup f) (GQ.query_from n s true t))
+        → (t m e : Token) (c : Fits s (property_comp_rule s) t m) (a : same m (Symbol Close) ≡ true) (k : Fits s (many (then bool_op (bracketed s))) (s.next m) e) → same e End ≡ true
+        → ReadsQuery (suc n) (group_count (join (join c stop) (join (one a) k))) (ShortGroup (join (join c stop) (join (one a) k))) (GQ.query_from (suc n) s true t)
+    unfolding group_count groups_count expr_count repeats ShortGroup ShortGroups ShortExpr ShortIn
+    group_closed n behind t m e c a stop x =
+        recount (suc n) 1 1 _ _ (GQ.query_from (suc n) s true t) refl (λ h. (h, tt)) (λ h. h.0)
+        (from_last n true t m (s.next m) c (close_clear m a) (join_close m a ∙ group_end (s.next m) x))
+    group_closed n behind t m e c a (more (join {m = v} o (join (one b) (join d (one w)))) k) x =
+        let i = group_next (s.next m) v o b in
+        recount (suc n) (suc (expr_count d + groups_count k)) (1 + (expr_count d + groups_count k)) _ _ (GQ.query_from (suc n) s true t) (omega arith) (λ h. ((h.0, tt), h.1)) (λ h. (h.0.0, h.1))
+        (from_more n (expr_count d + groups_count k) (ShortExpr d × ShortGroups k) true t m (s.next v) (Outer i.0) c (close_clear m a) (join_close m a ∙ i.1) refl (behind (s.next v) e (join d (join (one w) k)) x))
+
     group_read : (n : ℕ) (t e : Token) (f : Groups t e) → same e End ≡ true → ReadsQuery n (group_count f) (ShortGroup f) (GQ.query_from n s true t)
     unfolding group_count groups_count expr_count repeats ShortGroup ShortGroups ShortExpr ShortIn
     group_read zero t e f x = out_of (group_count f) (ShortGroup f) true t (groups_first t e f) (group_some t e f)
-    group_read (suc n) t e (join (join c stop) (join (one {t = m} a) stop)) x =
-        recount (suc n) 1 1 _ _ (GQ.query_from (suc n) s true t) refl (λ h. (h, tt)) (λ h. h.0)
-        (from_last n true t m (s.next m) c (close_clear m a) (join_close m a ∙ group_end (s.next m) x))
-    group_read (suc n) t e (join (join c stop) (join (one {t = m} a) (more (join {m = v} o (join (one b) (join d (one w)))) k))) x =
-        let i = group_next (s.next m) v o b in
-        recount (suc n) (suc (expr_count d + groups_count k)) (1 + (expr_count d + groups_count k)) _ _ (GQ.query_from (suc n) s true t) (omega arith) (λ h. ((h.0, tt), h.1)) (λ h. (h.0.0, h.1))
-        (from_more n (expr_count d + groups_count k) (ShortExpr d × ShortGroups k) true t m (s.next v) (Outer i.0) c (close_clear m a) (join_close m a ∙ i.1) refl (group_read n (s.next v) e (join d (join (one w) k)) x))
+    group_read (suc n) t e (join (join c stop) (join (one {t = m} a) k)) x = group_closed n (group_read n) t m e c a k x
     group_read (suc n) t e (join (join {m = m} c (more (join {m = u} o d) k)) (join y z)) x =
         let i = join_op true m u o in
         recount (suc n) (suc (expr_count (join d k) + groups_count z)) (suc (suc (repeats k)) + groups_count z) _ _ (GQ.query_from (suc n) s true t) (omega arith) (λ h. ((h.0, h.1.0), h.1.1)) (λ h. (h.0.0, (h.0.1, h.1)))

@@ -19,13 +19,14 @@ unfoldable pub elements_in : {s : Scan} {t e : Token} → Fits s (property_comp_
 elements_in (left (join p (join o a))) = element_count a
 elements_in (right f) = 0
 
--- the comparisons of an fql-expr, and of the bracketed ones that follow another
+-- the comparisons of an fql-expr, and of the bracketed ones that follow another; over one scan, as the kernel asks of a recursion whose rule names it
 unfoldable pub expr_count : {s : Scan} {t e : Token} → Fits s (fql_expr s) t e → ℕ
 expr_count (join c k) = suc (repeats k)
 
-unfoldable pub groups_count : {s : Scan} {t e : Token} → Fits s (many (then bool_op (bracketed s))) t e → ℕ
-groups_count stop = 0
-groups_count (more (join o (join a (join f b))) k) = expr_count f + groups_count k
+module _ {s : Scan} where
+  unfoldable pub groups_count : {t e : Token} → Fits s (many (then bool_op (bracketed s))) t e → ℕ
+  groups_count stop = 0
+  groups_count (more (join o (join a (join f b))) k) = expr_count f + groups_count k
 
 -- the comparisons of a query, over all groups
 unfoldable pub comparison_count : {s : Scan} {t e : Token} → Fits s (fql s) t e → ℕ
@@ -33,16 +34,18 @@ comparison_count (left f) = expr_count f
 comparison_count (right (join (join a (join f b)) k)) = expr_count f + groups_count k
 
 -- no array literal has more than 32 elements
-unfoldable pub ShortIn : {s : Scan} {t e : Token} → Fits s (many (then bool_op (property_comp_rule s))) t e → Type 0
-ShortIn stop = Unit
-ShortIn (more (join o c) k) = (elements_in c ≤ 32) × ShortIn k
+module _ {s : Scan} where
+  unfoldable pub ShortIn : {t e : Token} → Fits s (many (then bool_op (property_comp_rule s))) t e → Type 0
+  ShortIn stop = Unit
+  ShortIn (more (join o c) k) = (elements_in c ≤ 32) × ShortIn k
 
 unfoldable pub ShortExpr : {s : Scan} {t e : Token} → Fits s (fql_expr s) t e → Type 0
 ShortExpr (join c k) = (elements_in c ≤ 32) × ShortIn k
 
-unfoldable pub ShortGroups : {s : Scan} {t e : Token} → Fits s (many (then bool_op (bracketed s))) t e → Type 0
-ShortGroups stop = Unit
-ShortGroups (more (join o (join a (join f b))) k) = ShortExpr f × ShortGroups k
+module _ {s : Scan} where
+  unfoldable pub ShortGroups : {t e : Token} → Fits s (many (then bool_op (bracketed s))) t e → Type 0
+  ShortGroups stop = Unit
+  ShortGroups (more (join o (join a (join f b))) k) = ShortExpr f × ShortGroups k
 
 unfoldable pub Short : {s : Scan} {t e : Token} → Fits s (fql s) t e → Type 0
 Short (left f) = ShortExpr f
