@@ -201,10 +201,10 @@ module _ (s : Scan) where
     group_closed n behind t m e c a stop x =
         recount (suc n) 1 1 _ _ (GQ.query_from (suc n) s true t) refl (λ h. (h, tt)) (λ h. h.0)
         (from_last n true t m (s.next m) c (close_clear m a) (join_close m a ∙ group_end (s.next m) x))
-    group_closed n behind t m e c a (more (join {m = v} o (join (one b) (join d (one w)))) k) x =
+    group_closed n behind t m e c a (more (join {m = v} o (join (one b) (join d w))) k) x =
         let i = group_next (s.next m) v o b in
         recount (suc n) (suc (expr_count d + groups_count k)) (1 + (expr_count d + groups_count k)) _ _ (GQ.query_from (suc n) s true t) (omega arith) (λ h. ((h.0, tt), h.1)) (λ h. (h.0.0, h.1))
-        (from_more n (expr_count d + groups_count k) (ShortExpr d × ShortGroups k) true t m (s.next v) (Outer i.0) c (close_clear m a) (join_close m a ∙ i.1) refl (behind (s.next v) e (join d (join (one w) k)) x))
+        (from_more n (expr_count d + groups_count k) (ShortExpr d × ShortGroups k) true t m (s.next v) (Outer i.0) c (close_clear m a) (join_close m a ∙ i.1) refl (behind (s.next v) e (join d (join w k)) x))
 
     group_read : (n : ℕ) (t e : Token) (f : Groups t e) → same e End ≡ true → ReadsQuery n (group_count f) (ShortGroup f) (GQ.query_from n s true t)
     unfolding group_count groups_count expr_count repeats ShortGroup ShortGroups ShortExpr ShortIn
@@ -219,7 +219,7 @@ module _ (s : Scan) where
         → ReadsQuery n (comparison_count f) (Short f) (GQ.query_from n s (same t (Symbol Open)) (skip s (same t (Symbol Open)) t))
     unfolding comparison_count Short group_count ShortGroup
     whole_read n t e (left f) x = rw (expr_first t e f).1 (expr_read n t e f x)
-    whole_read n t e (right (join (join (one a) (join f (one c))) k)) x = rw a (group_read n (s.next t) e (join f (join (one c) k)) x)
+    whole_read n t e (right (join (join (one a) (join f c)) k)) x = rw a (group_read n (s.next t) e (join f (join c k)) x)
 
 -- a query that derives is read if the derivation is within the limits, and refused for a limit if not
 pub derived_read : (q : List ℕ) (d : Derives (scan q)) → ReadsQuery (scan q) 64 (comparison_count d.1) (Short d.1) (GQ.query q)
