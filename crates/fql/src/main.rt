@@ -2,13 +2,15 @@
 // totals, or the one line of a refused call. What it writes is `report`'s output; here is only the reading and the writing.
 #![tactic(auto)]
 
-ghost use Rattle.std.specs.Prelude.{◌≤◌, length};
+ghost use Rattle.std.specs.Prelude.{◌≤◌, length, OnOk};
+ghost use Rattle.std.specs.Io.KnownBytes.{Appends};
+ghost use Rattle.report.specs.Output.{output};
 ghost use Rattle.fql.specs.Counts.{IsPrefixLen};
 
 use report::output::{OUTPUT_LIMIT, write_output};
 use std::fs::File;
 use std::io;
-use std::io::Read;
+use std::io::{Read, Write};
 use std::rt::Files;
 
 // The open file's bytes at the start of `buf`, as far as it has room, and how many: none where a read fails, also after others that didn't.
@@ -36,29 +38,32 @@ fn read_file(rt: &impl Files, path: &str, buf: &mut [u8]) -> usize
     }
 }
 
-// The buffer has room for every output.
-fn print_output<'a>(
-    rt: &impl Print,
+// The buffer has room for every output, and what is written is all of it.
+fn print_output<'a, W: Write>(
+    to: &mut W,
     out: &mut [u8],
     query: &'a [u8],
     table: &'a [u8],
     run: &'a [u8],
 ) -> io::Result<()>
     requires { OUTPUT_LIMIT ≤ length out.old }
+    ensures { OnOk result (Appends (W.contents to.old) (W.contents to.new) (output query.now table.now run.now)) }
 {
     let n = write_output(out, query, table, run);
-    rt.write_all(&out[..n])
+    to.write_all(&out[..n])
 }
 
 // The buffer comes as an array, whose length is its type's: as a slice of zeros it would be counted byte by byte in the proof of its length.
-fn print_whole<'a>(
-    rt: &impl Print,
+fn print_whole<'a, W: Write>(
+    to: &mut W,
     out: &mut [u8; OUTPUT_LIMIT],
     query: &'a [u8],
     table: &'a [u8],
     run: &'a [u8],
-) -> io::Result<()> {
-    print_output(rt, out, query, table, run)
+) -> io::Result<()>
+    ensures { OnOk result (Appends (W.contents to.old) (W.contents to.new) (output query.now table.now run.now)) }
+{
+    print_output(to, out, query, table, run)
 }
 
 // A buffer has a byte more than its limit, so that a longer file is seen to be longer.
@@ -70,5 +75,11 @@ fn main(rt: HostRuntime) -> io::Result<()> {
     let mut run = [0u8; 65537];
     let r = read_file(&rt, "run", &mut run);
     let mut out = [0u8; OUTPUT_LIMIT];
-    print_whole(&rt, &mut out, &query[..q], &table[..t], &run[..r])
+    print_whole(
+        &mut io::writer(&rt),
+        &mut out,
+        &query[..q],
+        &table[..t],
+        &run[..r],
+    )
 }
