@@ -14,9 +14,9 @@ use Rattle.base.specs.Range.{within}
 use Rattle.base.specs.Part.{byte_at}
 use Rattle.base.proofs.Says.{and_both}
 use Rattle.scan.proofs.Alike.{Alike, stop, at_stops}
-use Rattle.unicode.specs.WellFormed.{Range, ◌‥◌, table, in_range, fits, sequence_in, sequence_at, ill_formed_from}
-use Rattle.unicode.specs.declared.text.Utf8.TheVariants.{WellFormed}
-use Rattle.unicode.proofs.WellFormed.{ill_formed_at, well_formed_next, sequence_fits}
+use Rattle.encoding.specs.WellFormed.{Range, ◌‥◌, table, in_range, fits, sequence_in, sequence_at, ill_formed_from}
+use Rattle.encoding.specs.declared.text.Utf8.TheVariants.{WellFormed}
+use Rattle.encoding.proofs.WellFormed.{ill_formed_at, well_formed_next, sequence_fits}
 use Rattle.string_literal.proofs.Ascii.{low_byte}
 
 -- ---- bytes behind the first of a sequence are 0x80 or more

@@ -4,8 +4,8 @@ use Rattle.base.specs.Range.{within}
 use Rattle.base.specs.Walk.{walk, from}
 use Rattle.base.specs.Digit.{digit_of, value_of}
 use Rattle.base.specs.Vectors.{results, expected}
-use Rattle.unicode.specs.WellFormed.{in_range, fits, sequence_in, sequence_at}
-use Rattle.unicode.specs.Scalar.{is_scalar_value, scalar_of, scalar_at}
+use Rattle.encoding.specs.WellFormed.{in_range, fits, sequence_in, sequence_at}
+use Rattle.encoding.specs.Scalar.{is_scalar_value, scalar_of, scalar_at}
 use Rattle.record.specs.Name.{letter, name_byte, lower, same_name}
 use Rattle.scan.specs.Class.{white, in_class, span, run}
 use Rattle.numeral.specs.Numeral.{signed, unsigned_integer, decimal_literal, binary_body, binary_literal, hex_pairs, hex_body, hex_literal, exact_numeric, exponent_part, real_body, real_literal}

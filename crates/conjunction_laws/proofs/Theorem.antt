@@ -52,7 +52,7 @@ module _ (q p table : List ℕ) (first : check q table ≡ Accepted) (second : c
   terms = products (terms_of q) (terms_of p)
 
   abbrev written : Reads terms (text terms) 1
-  written = read_text terms (products_every Own (terms_of q) (terms_of p) firsts.each-own seconds.each-own)
+  written = read_text terms (products_every Own (terms_of q) (terms_of p) firsts.each_own seconds.each_own)
 
   -- ---- how many comparisons it has
   size_is : size written.list ≡ comparisons_of q p

@@ -9,10 +9,10 @@ use Rattle.base.specs.Order as base-order
 use Rattle.base.specs.Part as base-part
 use Rattle.base.specs.Range as base-range
 use Rattle.base.specs.Walk as base-walk
-use Rattle.unicode.specs.Characters as unicode-characters
-use Rattle.unicode.specs.Lead as unicode-lead
-use Rattle.unicode.specs.Scalar as unicode-scalar
-use Rattle.unicode.specs.WellFormed as unicode-well-formed
+use Rattle.encoding.specs.Characters as unicode-characters
+use Rattle.encoding.specs.Lead as unicode-lead
+use Rattle.encoding.specs.Scalar as unicode-scalar
+use Rattle.encoding.specs.WellFormed as unicode-well-formed
 use Rattle.record.specs.Kind as record-kind
 use Rattle.record.specs.Name as record-name
 use Rattle.record.specs.Record as record-record

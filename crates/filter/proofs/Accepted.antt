@@ -8,9 +8,9 @@ use lib.ListN.{length}
 use lib.Dec.{ltb}
 use borrow.Author.Tests.{ltb-false, le-ltb}
 use Rattle.base.specs.Pick.{pick}
-use Rattle.unicode.specs.WellFormed.{first_ill_formed}
-use Rattle.unicode.specs.declared.text.Utf8.{Utf8}
-use Rattle.unicode.specs.declared.text.Utf8.TheVariants as utf8
+use Rattle.encoding.specs.WellFormed.{first_ill_formed}
+use Rattle.encoding.specs.declared.text.Utf8.{Utf8}
+use Rattle.encoding.specs.declared.text.Utf8.TheVariants as utf8
 use Rattle.table.specs.Table.{table_reading}
 use Rattle.table.specs.declared.validate.TableReading.{TableReading}
 use Rattle.table.specs.declared.validate.TableReading.TheVariants as table-reading

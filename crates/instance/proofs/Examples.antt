@@ -13,9 +13,9 @@ use Rattle.record.specs.Record
 use Rattle.record.specs.Write
 use Rattle.record.specs.Write.{write}
 use Rattle.record.specs.Kind
-use Rattle.unicode.specs.WellFormed
-use Rattle.unicode.specs.Scalar
-use Rattle.unicode.specs.Characters
+use Rattle.encoding.specs.WellFormed
+use Rattle.encoding.specs.Scalar
+use Rattle.encoding.specs.Characters
 use Rattle.text_writer.specs.Decimal
 use Rattle.datetime.specs.Calendar
 use Rattle.datetime.specs.Text

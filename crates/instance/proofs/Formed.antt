@@ -23,7 +23,7 @@ use Rattle.record.specs.declared.kind.Kind.TheVariants.{Unknown, Scalar, Array}
 use Rattle.base.proofs.ByteLists.{Bytes, bytes_part}
 use Rattle.record.proofs.Small.{number_below}
 use Rattle.record.proofs.Types.{Said, SizedBy, Sized, sized}
-use Rattle.unicode.proofs.Characters.{Scalars, characters_scalar}
+use Rattle.encoding.proofs.Characters.{Scalars, characters_scalar}
 use Rattle.datetime.specs.declared.Datetime as calendar
 use Rattle.datetime.specs.declared.Datetime.TheVariants.{Malformed}
 use Rattle.table.specs.Properties.{kinds_of}

@@ -5,9 +5,9 @@ use Rattle.record.specs.Record.{number_at}
 use Rattle.record.specs.declared.kind.Family.{Family}
 use Rattle.record.specs.declared.kind.Family.TheVariants.{Boolean, Integer, Real, Text, Char16, Octets, Datetime, Reference}
 use Rattle.record.specs.declared.kind.ValueType.{ValueType}
-use Rattle.unicode.specs.WellFormed.{first_ill_formed}
-use Rattle.unicode.specs.declared.text.Utf8.{Utf8}
-use Rattle.unicode.specs.declared.text.Utf8.TheVariants.{WellFormed, IllFormed}
+use Rattle.encoding.specs.WellFormed.{first_ill_formed}
+use Rattle.encoding.specs.declared.text.Utf8.{Utf8}
+use Rattle.encoding.specs.declared.text.Utf8.TheVariants.{WellFormed, IllFormed}
 use Rattle.datetime.specs.Datetime.{datetime_of}
 use Rattle.datetime.specs.declared.Datetime as calendar
 use Rattle.datetime.specs.declared.Datetime.TheVariants.{Timestamp, Interval, Malformed}

@@ -15,7 +15,7 @@ use Rattle.record.specs.declared.kind.Family.TheVariants.{Boolean, Integer, Real
 use Rattle.record.specs.declared.kind.ValueType.{ValueType}
 use Rattle.record.specs.declared.kind.Kind.{Kind}
 use Rattle.record.specs.declared.kind.Kind.TheVariants.{Unknown, Scalar, Array}
-use Rattle.unicode.specs.Characters.{characters}
+use Rattle.encoding.specs.Characters.{characters}
 use Rattle.real.specs.Value.{real32_of, real64_of}
 use Rattle.datetime.specs.Datetime.{datetime_of}
 use Rattle.datetime.specs.declared.Datetime as calendar

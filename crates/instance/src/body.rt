@@ -3,7 +3,7 @@ ghost use Rattle.std.specs.Prelude.{◌≡◌};
 ghost use Rattle.instance.specs.Body.{boolean_fits, text_fits, char16_fits, datetime_fits, is_numeric, family_fits, value_fits};
 
 use record::kind::{Family, ValueType};
-use unicode::text::Utf8;
+use encoding::text::Utf8;
 
 fn boolean_fits(s: &[u8]) -> bool
     ensures { result ≡ boolean_fits s.now }
@@ -14,7 +14,7 @@ fn boolean_fits(s: &[u8]) -> bool
 fn text_fits(s: &[u8]) -> bool
     ensures { result ≡ text_fits s.now }
 {
-    match unicode::text::check_utf8(s) {
+    match encoding::text::check_utf8(s) {
         Utf8::WellFormed => true,
         Utf8::IllFormed(_) => false,
     }

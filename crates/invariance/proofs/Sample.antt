@@ -14,7 +14,7 @@ use Rattle.record.specs.Write
 use Rattle.record.specs.Kind
 use Rattle.record.specs.Name
 use Rattle.record.specs.Reserved
-use Rattle.unicode.specs.WellFormed
+use Rattle.encoding.specs.WellFormed
 use Rattle.text_writer.specs.Decimal
 use Rattle.datetime.specs.Calendar
 use Rattle.datetime.specs.Text

@@ -189,7 +189,7 @@ module _ {q r : List ℕ} {a b k l : ℕ} {t u : Token} {n : ℕ} (G : Group q r
     where
       go : Named p o → (c : Bool) → eqb p.names 1 ≡ c → spanned q (pick c (span_of x) p.second) ≡ spanned r (pick c (span_of y) o.second)
       go f true e = name_stays G.alike (kept j).places (kept j).stands
-      go f false e = f.seconds (omega (arith, f.some-names, eqb-false p.names 1 e))
+      go f false e = f.seconds (omega (arith, f.some_names, eqb-false p.names 1 e))
 
   module _ (table instance : List ℕ) where
     named_alike : {p o : Path} → Paths (scan q) (scan r) R p o → named q table p ≡ named r table o
@@ -251,7 +251,7 @@ module _ {q r : List ℕ} {a b k l : ℕ} {t u : Token} {n : ℕ} (G : Group q r
             let z : m + 1 ≡ suc m = omega arith in
             record {
               reached = rw z (ap (next_element q) g.reached);
-              other_reached = rw z (ap (next_element r) g.other-reached);
+              other_reached = rw z (ap (next_element r) g.other_reached);
               each = λ i e. by i (ltb i m) refl e g;
             }
           where
@@ -259,7 +259,7 @@ module _ {q r : List ℕ} {a b k l : ℕ} {t u : Token} {n : ℕ} (G : Group q r
             by i true f e g = g.each i (ltb-true i m f)
             by i false f e g =
                 let z : i ≡ m = omega (arith, ltb-false i m f) in
-                rw (z, ← g.reached, ← g.other-reached) p
+                rw (z, ← g.reached, ← g.other_reached) p
 
     elements_alike : (f : Family) (x y : Token) (m i : ℕ) → ((j : ℕ) → j < i + m → Pair (element q x j) (element r y j))
         → SameRead (elements f q (elements_from q (element q x i) m)) (elements f r (elements_from r (element r y i) m))
@@ -272,7 +272,7 @@ module _ {q r : List ℕ} {a b k l : ℕ} {t u : Token} {n : ℕ} (G : Group q r
     unfolding first_element element
     list_alike f {x} {y} {m = m} p e =
         let k = kept p in
-        rw (k.stands, k.other-stands) (elements_alike f (token_after q x) (token_after r y) m 0 (λ j h. (listed e).each j (omega arith)))
+        rw (k.stands, k.other_stands) (elements_alike f (token_after q x) (token_after r y) m 0 (λ j h. (listed e).each j (omega arith)))
 
     right_kind_law : (f : Family) (m n : ℕ) {i j : Index} → Indices (scan q) (scan r) R i j → (x : Kind) (v : Value) → SameRight (right_kind f q m i x v) (right_kind f r n j x v)
     unfolding right_kind right_scalar right_array

@@ -14,8 +14,8 @@ use Rattle.record.specs.declared.read.RecordAt.TheVariants.{Whole, Broken, End}
 use Rattle.record.specs.declared.kind.Family.{Family}
 use Rattle.record.specs.declared.kind.Family.TheVariants as family
 use Rattle.record.specs.declared.kind.ValueType.{ValueType}
-use Rattle.unicode.specs.Characters.{characters}
-use Rattle.unicode.proofs.Characters.{characters_fewer}
+use Rattle.encoding.specs.Characters.{characters}
+use Rattle.encoding.proofs.Characters.{characters_fewer}
 use Rattle.matcher.specs.declared.matcher.Matched.{Matched}
 use Rattle.token.specs.declared.Token.{Token}
 use Rattle.instance.specs.Value.{family_value, scalar_in}

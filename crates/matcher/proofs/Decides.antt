@@ -139,10 +139,10 @@ keeps : (b : Bool) (r : Regex Bool) (c : ℕ) → Matches (shift b r c) ≡ Matc
 unfolding Matches shift
 keeps b empty c = refl
 keeps b (sym m p) c = refl
-keeps b (seq a r) c = ap₂ Split (keeps b a c) (keeps _ r c)
+keeps b (seq a r) c = ap₂ Split (keeps b a c) (keeps (b && nullable a || final a) r c)
 keeps b (alt a r) c = λ i w. keeps b a c i w ⊎ keeps b r c i w
 keeps b (opt a) c = λ i w. (w ≡ []) ⊎ keeps b a c i w
-keeps b (plus a) c = ap Plus (keeps _ a c)
+keeps b (plus a) c = ap Plus (keeps (b || final a) a c)
 
 keep : (b : Bool) (r : Regex Bool) (c : ℕ) (w : List ℕ) → Matches (shift b r c) w → Matches r w
 keep b r c w m = subst (λ (L : List ℕ → Type 0). L w) (keeps b r c) m

@@ -11,9 +11,9 @@ use lib.Bits.{bit_or}
 use Rattle.base.specs.Bits.{bit}
 use Rattle.base.proofs.Bits.{bit_or_law, bit_other}
 use Rattle.base.specs.Part.{part}
-use Rattle.unicode.specs.WellFormed.{sequence_at}
-use Rattle.unicode.specs.Scalar.{scalar_of, scalar_at}
-use Rattle.unicode.proofs.ScalarValue.{scalar_ascii}
+use Rattle.encoding.specs.WellFormed.{sequence_at}
+use Rattle.encoding.specs.Scalar.{scalar_of, scalar_at}
+use Rattle.encoding.proofs.ScalarValue.{scalar_ascii}
 use Rattle.pattern.specs.Hits.{Hits}
 use Rattle.matcher.specs.Remembered.{Remembers}
 

@@ -11,10 +11,10 @@ use lib.Dec.{eqb}
 use borrow.Author.Tests.{ne_eqb}
 use Rattle.base.specs.Bits.{bit}
 use Rattle.base.proofs.Bits.{bit_zero}
-use Rattle.unicode.specs.WellFormed.{sequence_at}
-use Rattle.unicode.specs.Scalar.{scalar_at}
-use Rattle.unicode.specs.Characters.{characters_from, characters}
-use Rattle.unicode.proofs.Characters.{characters_next, characters_stop, characters_end, characters_fewer}
+use Rattle.encoding.specs.WellFormed.{sequence_at}
+use Rattle.encoding.specs.Scalar.{scalar_at}
+use Rattle.encoding.specs.Characters.{characters_from, characters}
+use Rattle.encoding.proofs.Characters.{characters_next, characters_stop, characters_end, characters_fewer}
 use Rattle.pattern.specs.declared.fragment.Fragment.{Fragment}
 use Rattle.pattern.specs.declared.reader.PatternRead.{PatternRead}
 use Rattle.pattern.specs.declared.reader.PatternRead.TheVariants.{BadPattern, Pattern}

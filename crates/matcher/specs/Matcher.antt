@@ -1,7 +1,7 @@
 -- LIKE of a text, for a text that is a pattern or none.
 use Rattle.std.specs.Prelude.{◌≡◌, Bool, false, List, ℕ, ◌<◌, length, get_or}
 use Rattle.std.proofs.Math.Option.{Option, none, some}
-use Rattle.unicode.specs.Characters.{characters}
+use Rattle.encoding.specs.Characters.{characters}
 use Rattle.matcher.specs.declared.matcher.Matched.{Matched}
 use Rattle.pattern.specs.declared.fragment.Fragment.{Fragment}
 use Rattle.pattern.specs.Regex.{Regex}

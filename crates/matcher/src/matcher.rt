@@ -12,8 +12,8 @@ use pattern::fragment::Fragment;
 use pattern::hits::hits_of;
 use pattern::links::LINKS;
 use pattern::reader::{PatternRead, read_pattern};
-use unicode::count::count_from;
-use unicode::sequence::sequence_at;
+use encoding::count::count_from;
+use encoding::sequence::sequence_at;
 
 // Whether a text matches, and how many characters it has.
 #[derive(Drop)]

@@ -1,13 +1,13 @@
 // The symbols that stand for a character. To find them the pattern is read; for most characters of a text that is done once.
 ghost use Rattle.std.specs.Prelude.{◌≡◌, ◌<◌, length};
-ghost use Rattle.unicode.specs.WellFormed.{sequence_at};
-ghost use Rattle.unicode.specs.Scalar.{scalar_at};
+ghost use Rattle.encoding.specs.WellFormed.{sequence_at};
+ghost use Rattle.encoding.specs.Scalar.{scalar_at};
 ghost use Rattle.pattern.specs.Hits.{Hits};
 ghost use Rattle.matcher.specs.Remembered.{Remembers};
 
 use base::bytes::piece;
 use pattern::hits::hits_of;
-use unicode::scalar::scalar_of;
+use encoding::scalar::scalar_of;
 
 // A word for each character of ASCII: its symbols.
 const ASCII: usize = 128;

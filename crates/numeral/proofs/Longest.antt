@@ -163,14 +163,14 @@ module _ (q : List ℕ) where
       record { count = 1; even = omega arith; some = omega arith; in_run = rw (two_steps a h k) (run_from (Digit 16) q (suc (suc a))) }
   pairs_longest {a} (more (join (one h) (one k)) f) =
       let g = pairs_longest f in
-      record { count = suc g.count; even = omega (arith, g.even); some = omega arith; in_run = rw (two_steps a h k) g.in-run }
+      record { count = suc g.count; even = omega (arith, g.even); some = omega arith; in_run = rw (two_steps a h k) g.in_run }
 
   hex_body_law : {a e : ℕ} → Fits q (then (exactly 48) (then (either 88 120) pairs)) a e → (a < e) × (e ≤ hex_body q a)
   unfolding hex_body hex_pairs
   hex_body_law {a} {e} (join (one h) (join (one x) f)) =
       let g = pairs_longest f in
       let p : a + 2 ≡ suc (suc a) = omega arith in
-      let l : e ≤ suc (suc a) + (run (Digit 16) q (suc (suc a)) - suc (suc a)) / 2 * 2 = omega (arith, g.even, g.in-run) in
+      let l : e ≤ suc (suc a) + (run (Digit 16) q (suc (suc a)) - suc (suc a)) / 2 * 2 = omega (arith, g.even, g.in_run) in
       (omega (arith, g.even), rw (h, add-one a, x, p, lt-ltb (suc (suc a)) (suc (suc a) + (run (Digit 16) q (suc (suc a)) - suc (suc a)) / 2 * 2) (omega (arith, g.even, g.some))) l)
 
   hex_no_sign : {a e : ℕ} → Fits q (then (exactly 48) (then (either 88 120) pairs)) a e → one_of 43 45 (byte_at q a) ≡ false

@@ -7,9 +7,9 @@ use Rattle.base.specs.Walk.{walk, from}
 use Rattle.base.specs.Digit.{digit_of, all_digits, value_of, size_under}
 use Rattle.base.specs.LittleEndian.{unsigned}
 use Rattle.base.specs.Vectors.{results, expected}
-use Rattle.unicode.specs.WellFormed.{in_range, sequence_in, sequence_at}
-use Rattle.unicode.specs.WellFormed as utf
-use Rattle.unicode.specs.Scalar.{is_scalar_value, scalar_of, scalar_at, encode}
+use Rattle.encoding.specs.WellFormed.{in_range, sequence_in, sequence_at}
+use Rattle.encoding.specs.WellFormed as utf
+use Rattle.encoding.specs.Scalar.{is_scalar_value, scalar_of, scalar_at, encode}
 use Rattle.real.specs.Real.{magnitude, real_of}
 use Rattle.text_writer.specs.Decimal.{digits_within, decimal}
 use Rattle.datetime.specs.Text.{shaped, date_in, time_in}

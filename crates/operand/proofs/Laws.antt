@@ -37,7 +37,7 @@ use Rattle.literal.specs.declared.Decoded.TheVariants as decoded
 use Rattle.string_literal.specs.Text.{text_at, characters_of, filled, Holds}
 use Rattle.string_literal.specs.declared.Filled.{Filled}
 use Rattle.string_literal.specs.declared.Filled.TheVariants.{Count, TooMany}
-use Rattle.unicode.specs.Characters.{characters}
+use Rattle.encoding.specs.Characters.{characters}
 use Rattle.pattern.specs.Reading.{parse, is_some, well_formed, alternatives, sequence, item, symbol_item, symbol, ends}
 use Rattle.pattern.specs.Character.{starts_with, special}
 use Rattle.matcher.specs.Matcher.{like_of, match_of}

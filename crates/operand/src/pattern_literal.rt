@@ -1,7 +1,7 @@
 // The pattern of a string literal.
 ghost use Rattle.std.specs.Prelude.{◌≡◌, [], ◌∷◌};
 ghost use Rattle.pattern.specs.Reading.{is_some};
-ghost use Rattle.unicode.specs.Characters.{characters};
+ghost use Rattle.encoding.specs.Characters.{characters};
 ghost use Rattle.operand.specs.PatternLiteral.{pattern_of, matched};
 
 use matcher::matcher::{Matched, match_one, match_text};

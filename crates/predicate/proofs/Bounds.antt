@@ -16,7 +16,7 @@ use Rattle.record.specs.declared.kind.Family.{Family}
 use Rattle.record.specs.declared.kind.Family.TheVariants as family
 use Rattle.record.specs.declared.kind.ValueType.{ValueType}
 use Rattle.record.proofs.Records.{View, ends, breaks, stands, view, whole_in_law, records_whole, records_broken, records_end}
-use Rattle.unicode.proofs.Characters.{characters_fewer}
+use Rattle.encoding.proofs.Characters.{characters_fewer}
 use Rattle.instance.specs.Conforms.{count}
 use Rattle.instance.specs.Value.{ScalarValue, family_value, scalar_in}
 use Rattle.instance.proofs.Formed.{length_elements}

@@ -5,8 +5,8 @@ use Rattle.base.specs.Walk.{walk, from}
 use Rattle.base.specs.Digit.{digit_of, value_of}
 use Rattle.base.specs.Vectors.{results, expected}
 use Rattle.record.specs.Name.{letter, name_byte, lower, same_name}
-use Rattle.unicode.specs.WellFormed.{in_range, fits, sequence_in, sequence_at, ill_formed_from}
-use Rattle.unicode.specs.Scalar.{is_scalar_value, scalar_of, scalar_at}
+use Rattle.encoding.specs.WellFormed.{in_range, fits, sequence_in, sequence_at, ill_formed_from}
+use Rattle.encoding.specs.Scalar.{is_scalar_value, scalar_of, scalar_at}
 use Rattle.scan.specs.Class.{white, in_class, span, run}
 use Rattle.string_literal.specs.Char.{unicode_char, raw_at, plain_escape, hex_run, unicode_escape, escape_at, char_at}
 use Rattle.string_literal.specs.Text.{text_at, end_or, string_literal}

@@ -8,9 +8,9 @@ use lib.ListN.{length}
 use borrow.Author.Tests.{lt-ltb, le-ltb}
 use Rattle.token.specs.declared.Token.{Token}
 use Rattle.terminal.specs.Terminal.{opening}
-use Rattle.unicode.specs.declared.text.Utf8.{Utf8}
-use Rattle.unicode.specs.declared.text.Utf8.TheVariants as Utf8
-use Rattle.unicode.specs.WellFormed.{first_ill_formed}
+use Rattle.encoding.specs.declared.text.Utf8.{Utf8}
+use Rattle.encoding.specs.declared.text.Utf8.TheVariants as Utf8
+use Rattle.encoding.specs.WellFormed.{first_ill_formed}
 use Rattle.syntax.specs.declared.comparison.Comparison.{Comparison}
 use Rattle.syntax.specs.declared.fault.Cause.TheVariants.{Length, Encoding}
 use Rattle.syntax.specs.declared.fault.Fault.{Fault}

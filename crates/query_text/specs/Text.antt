@@ -1,9 +1,9 @@
 -- What is said of a query's text (01 "Query text", "What can go wrong with a call"): 1, then 10, then 11 and 12 by first place.
 use Rattle.std.specs.Prelude.{ℕ, List, ltb, length}
 use Rattle.base.specs.Pick.{pick}
-use Rattle.unicode.specs.declared.text.Utf8.{Utf8}
-use Rattle.unicode.specs.declared.text.Utf8.TheVariants as Utf8
-use Rattle.unicode.specs.WellFormed.{first_ill_formed}
+use Rattle.encoding.specs.declared.text.Utf8.{Utf8}
+use Rattle.encoding.specs.declared.text.Utf8.TheVariants as Utf8
+use Rattle.encoding.specs.WellFormed.{first_ill_formed}
 use Rattle.syntax.specs.declared.fault.Cause.{Cause}
 use Rattle.syntax.specs.declared.fault.Cause.TheVariants.{Length, Encoding, Grammar, Limit}
 use Rattle.syntax.specs.Scan.{fault}

@@ -4,7 +4,7 @@ ghost use Rattle.query_text.specs.Text.{number_of, text_verdict};
 
 use crate::query::{Verdict, read_query};
 use syntax::fault::{Cause, Fault};
-use unicode::text::Utf8;
+use encoding::text::Utf8;
 
 // 01's number of a refusal.
 pub fn number_of(cause: Cause) -> usize
@@ -27,7 +27,7 @@ pub fn check_text(q: &[u8]) -> Verdict
             place: 0,
         });
     }
-    match unicode::text::check_utf8(q) {
+    match encoding::text::check_utf8(q) {
         Utf8::IllFormed(place) => Verdict::Refused(Fault {
             cause: Cause::Encoding,
             place,

@@ -12,9 +12,9 @@ use Rattle.base.specs.Range.{within}
 use Rattle.base.specs.Part.{byte_at}
 use Rattle.base.proofs.Lists.{left_next, byte_within}
 use Rattle.base.proofs.Says.{and_both}
-use Rattle.unicode.specs.WellFormed.{Range, ◌‥◌, table, in_range, fits, sequence_in, sequence_at}
-use Rattle.unicode.specs.Scalar.{is_scalar_value, scalar_of, scalar_at}
-use Rattle.unicode.proofs.ScalarValue.{scalar_at_value}
+use Rattle.encoding.specs.WellFormed.{Range, ◌‥◌, table, in_range, fits, sequence_in, sequence_at}
+use Rattle.encoding.specs.Scalar.{is_scalar_value, scalar_of, scalar_at}
+use Rattle.encoding.proofs.ScalarValue.{scalar_at_value}
 use Rattle.string_literal.specs.declared.InString.TheVariants.{Character}
 use Rattle.string_literal.specs.Char.{unicode_char, raw_at}
 

@@ -17,9 +17,9 @@ use Rattle.base.proofs.Digits.{within_high}
 use Rattle.scan.specs.Class.{run}
 use Rattle.scan.specs.declared.Class.TheVariants.{Digit}
 use Rattle.scan.proofs.Runs.{run_reach}
-use Rattle.unicode.specs.WellFormed.{sequence_at}
-use Rattle.unicode.specs.Scalar.{scalar_at, is_scalar_value}
-use Rattle.unicode.proofs.WellFormed.{sequence_fits}
+use Rattle.encoding.specs.WellFormed.{sequence_at}
+use Rattle.encoding.specs.Scalar.{scalar_at, is_scalar_value}
+use Rattle.encoding.proofs.WellFormed.{sequence_fits}
 use Rattle.string_literal.specs.declared.InString.{InString}
 use Rattle.string_literal.specs.declared.InString.TheVariants.{Character, Close, Bad}
 use Rattle.string_literal.specs.Char.{char_at, raw_at, escape_at, unicode_escape, plain_escape, hex_run, unicode_char}

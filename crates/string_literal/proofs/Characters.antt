@@ -11,13 +11,13 @@ use Rattle.base.specs.Pick.{pick}
 use Rattle.base.specs.Range.{within}
 use Rattle.base.specs.Part.{byte_at}
 use Rattle.base.specs.Digit.{value_of}
-use Rattle.unicode.specs.WellFormed.{table, fits, sequence_in, sequence_at}
-use Rattle.unicode.specs.Scalar.{scalar_at, is_scalar_value, encode, two_bytes, three_bytes, four_bytes}
-use Rattle.unicode.specs.Characters.{characters_from, characters}
-use Rattle.unicode.proofs.WellFormed.{sequence_fits}
-use Rattle.unicode.proofs.ScalarValue.{scalar_at_value}
-use Rattle.unicode.proofs.Characters.{Scalars, none, more, characters_next, characters_stop}
-use Rattle.unicode.proofs.Encoding.{encode_reads}
+use Rattle.encoding.specs.WellFormed.{table, fits, sequence_in, sequence_at}
+use Rattle.encoding.specs.Scalar.{scalar_at, is_scalar_value, encode, two_bytes, three_bytes, four_bytes}
+use Rattle.encoding.specs.Characters.{characters_from, characters}
+use Rattle.encoding.proofs.WellFormed.{sequence_fits}
+use Rattle.encoding.proofs.ScalarValue.{scalar_at_value}
+use Rattle.encoding.proofs.Characters.{Scalars, none, more, characters_next, characters_stop}
+use Rattle.encoding.proofs.Encoding.{encode_reads}
 use borrow.Author.Tests.{eqb-true, eqb-false}
 use Rattle.string_literal.specs.declared.InString.{InString}
 use Rattle.string_literal.specs.declared.InString.TheVariants.{Character, Close, Bad}

@@ -14,9 +14,9 @@ use Rattle.base.proofs.Says.{and_both, or_neither}
 use Rattle.scan.specs.Class.{run, in_class}
 use Rattle.scan.specs.declared.Class.TheVariants.{Digit}
 use Rattle.scan.proofs.Runs.{run_from, run_holds, run_stops, run_longest, digit_no_zero}
-use Rattle.unicode.specs.WellFormed.{sequence_at}
-use Rattle.unicode.specs.Scalar.{scalar_at, is_scalar_value}
-use Rattle.unicode.proofs.WellFormed.{sequence_fits}
+use Rattle.encoding.specs.WellFormed.{sequence_at}
+use Rattle.encoding.specs.Scalar.{scalar_at, is_scalar_value}
+use Rattle.encoding.proofs.WellFormed.{sequence_fits}
 use Rattle.string_literal.specs.declared.InString.{InString}
 use Rattle.string_literal.specs.declared.InString.TheVariants.{Character, Close, Bad}
 use Rattle.string_literal.specs.Char.{char_at, raw_at, escape_at, unicode_escape, plain_escape, hex_run, unicode_char}

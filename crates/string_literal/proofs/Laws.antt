@@ -8,8 +8,8 @@ use lib.ListN.{length}
 use lib.Dec.{leb, ltb, eqb}
 use borrow.Author.Tests.{lt-leb, le-ltb, not-true}
 use Rattle.base.specs.Range.{within}
-use Rattle.unicode.specs.Scalar.{is_scalar_value}
-use Rattle.unicode.proofs.WellFormed.{past_end}
+use Rattle.encoding.specs.Scalar.{is_scalar_value}
+use Rattle.encoding.proofs.WellFormed.{past_end}
 use Rattle.base.proofs.Says.{and_both, and_false, or_neither}
 use Rattle.base.specs.Part.{byte_at}
 use Rattle.base.specs.Digit.{value_of, size_under}

@@ -14,9 +14,9 @@ use Rattle.scan.specs.Class.{run}
 use Rattle.scan.specs.declared.Class.TheVariants.{Digit}
 use Rattle.scan.proofs.Runs.{run_from}
 use Rattle.scan.proofs.Alike.{Alike, digits_within_law, digits_alike, value_alike, part_alike}
-use Rattle.unicode.specs.WellFormed.{sequence_at}
-use Rattle.unicode.specs.Scalar.{scalar_at, is_scalar_value}
-use Rattle.unicode.proofs.SameSequence.{same_sequence, same_scalar}
+use Rattle.encoding.specs.WellFormed.{sequence_at}
+use Rattle.encoding.specs.Scalar.{scalar_at, is_scalar_value}
+use Rattle.encoding.proofs.SameSequence.{same_sequence, same_scalar}
 use Rattle.string_literal.specs.declared.InString.{InString}
 use Rattle.string_literal.specs.declared.InString.TheVariants.{Character, Close, Bad}
 use Rattle.string_literal.specs.Char.{unicode_char, raw_at, plain_escape, hex_run, unicode_escape, escape_at, char_at}

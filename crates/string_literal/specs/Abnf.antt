@@ -7,8 +7,8 @@ use Rattle.base.specs.Digit.{value_of}
 use Rattle.base.specs.Ascii.{bytes}
 use Rattle.scan.specs.Class.{in_class}
 use Rattle.scan.specs.declared.Class.TheVariants.{Digit}
-use Rattle.unicode.specs.WellFormed.{sequence_at}
-use Rattle.unicode.specs.Scalar.{scalar_at, is_scalar_value}
+use Rattle.encoding.specs.WellFormed.{sequence_at}
+use Rattle.encoding.specs.Scalar.{scalar_at, is_scalar_value}
 use Rattle.string_literal.specs.Char.{unicode_char}
 
 -- a character of a set; one rule after another; alternatives; *( .. ); low*high(hex-digit)

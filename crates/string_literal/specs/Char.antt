@@ -6,8 +6,8 @@ use Rattle.base.specs.Range.{within}
 use Rattle.base.specs.Digit.{value_of}
 use Rattle.scan.specs.Class.{run}
 use Rattle.scan.specs.declared.Class.TheVariants.{Digit}
-use Rattle.unicode.specs.WellFormed.{sequence_at}
-use Rattle.unicode.specs.Scalar.{scalar_at, is_scalar_value}
+use Rattle.encoding.specs.WellFormed.{sequence_at}
+use Rattle.encoding.specs.Scalar.{scalar_at, is_scalar_value}
 use Rattle.string_literal.specs.declared.InString.{InString}
 use Rattle.string_literal.specs.declared.InString.TheVariants.{Character, Close, Bad}
 

@@ -3,7 +3,7 @@ use Rattle.std.specs.Prelude.{ℕ, ◌+◌, ◌≤◌, ◌<◌, ◌≡◌, List,
 use Rattle.base.specs.Pick.{pick}
 use Rattle.base.specs.Part.{byte_at}
 use Rattle.base.specs.Walk.{from}
-use Rattle.unicode.specs.Scalar.{encode}
+use Rattle.encoding.specs.Scalar.{encode}
 use Rattle.string_literal.specs.declared.InString.{InString}
 use Rattle.string_literal.specs.declared.InString.TheVariants.{Character, Close, Bad}
 use Rattle.string_literal.specs.declared.Filled.{Filled}

@@ -10,4 +10,3 @@ pub mod Steps
 pub mod Local
 pub mod Stands
 pub mod Bounds
-pub mod Calls

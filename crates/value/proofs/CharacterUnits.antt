@@ -13,11 +13,11 @@ use Rattle.base.specs.Part.{byte_at, same_bytes}
 use Rattle.base.proofs.Says.{and_both, apart}
 use Rattle.base.proofs.Lists.{left_next}
 use Rattle.scan.proofs.Alike.{part_same}
-use Rattle.unicode.specs.WellFormed.{sequence_at}
-use Rattle.unicode.specs.Scalar.{scalar_at}
-use Rattle.unicode.specs.Blocks.{Reaches, here, onward, Walked}
-use Rattle.unicode.proofs.Characters.{characters_next}
-use Rattle.unicode.proofs.SameSequence.{same_sequence, same_scalar}
+use Rattle.encoding.specs.WellFormed.{sequence_at}
+use Rattle.encoding.specs.Scalar.{scalar_at}
+use Rattle.encoding.specs.Blocks.{Reaches, here, onward, Walked}
+use Rattle.encoding.proofs.Characters.{characters_next}
+use Rattle.encoding.proofs.SameSequence.{same_sequence, same_scalar}
 use Rattle.string_literal.specs.declared.InString.TheVariants.{Character}
 use Rattle.string_literal.specs.Char.{raw_at, char_at}
 use Rattle.string_literal.proofs.Ascii.{string_character}

@@ -8,9 +8,9 @@ use Rattle.base.specs.Range
 use Rattle.base.specs.Walk
 use Rattle.base.specs.Digit
 use Rattle.base.specs.Vectors.{results, expected}
-use Rattle.unicode.specs.WellFormed
-use Rattle.unicode.specs.Scalar
-use Rattle.unicode.specs.Characters
+use Rattle.encoding.specs.WellFormed
+use Rattle.encoding.specs.Scalar
+use Rattle.encoding.specs.Characters
 use Rattle.text_writer.specs.Decimal
 use Rattle.datetime.specs.Calendar
 use Rattle.datetime.specs.Text

@@ -11,10 +11,10 @@ use Rattle.base.specs.Part.{part, same_bytes}
 use Rattle.base.specs.Digit.{digit_of}
 use Rattle.base.proofs.Lists.{left_next}
 use Rattle.record.specs.Record.{number_at}
-use Rattle.unicode.specs.WellFormed.{sequence_at}
-use Rattle.unicode.specs.Scalar.{scalar_of, scalar_at, two_bytes, three_bytes, four_bytes, encode}
-use Rattle.unicode.proofs.WellFormed.{sequence_fits}
-use Rattle.unicode.proofs.Characters.{characters_next, characters_stop}
+use Rattle.encoding.specs.WellFormed.{sequence_at}
+use Rattle.encoding.specs.Scalar.{scalar_of, scalar_at, two_bytes, three_bytes, four_bytes, encode}
+use Rattle.encoding.proofs.WellFormed.{sequence_fits}
+use Rattle.encoding.proofs.Characters.{characters_next, characters_stop}
 use Rattle.string_literal.specs.declared.InString.{InString}
 use Rattle.string_literal.specs.declared.InString.TheVariants.{Character, Close, Bad}
 use Rattle.string_literal.specs.Char.{char_at}

@@ -13,9 +13,9 @@ use Rattle.base.specs.Part.{byte_at, same_bytes}
 use Rattle.base.specs.Range.{within}
 use Rattle.base.proofs.Says.{and_both, apart}
 use Rattle.base.proofs.Lists.{left_next, byte_within}
-use Rattle.unicode.specs.WellFormed.{sequence_at}
-use Rattle.unicode.specs.Scalar.{scalar_at}
-use Rattle.unicode.proofs.Characters.{characters_next}
+use Rattle.encoding.specs.WellFormed.{sequence_at}
+use Rattle.encoding.specs.Scalar.{scalar_at}
+use Rattle.encoding.proofs.Characters.{characters_next}
 use Rattle.string_literal.specs.declared.InString.TheVariants.{Character}
 use Rattle.string_literal.specs.Char.{unicode_char, raw_at, char_at}
 use Rattle.string_literal.proofs.Ascii.{low_byte}

@@ -3,8 +3,8 @@ use Rattle.std.specs.Prelude.{ℕ, ◌+◌, ◌*◌, List, [], ◌∷◌, ◌++�
 use Rattle.base.specs.Pick.{pick}
 use Rattle.base.specs.Digit.{digit_of}
 use Rattle.record.specs.Record.{number_at}
-use Rattle.unicode.specs.Characters.{characters_from}
-use Rattle.unicode.specs.Scalar.{encode}
+use Rattle.encoding.specs.Characters.{characters_from}
+use Rattle.encoding.specs.Scalar.{encode}
 use Rattle.string_literal.specs.Text.{text_at, characters_of, bytes_of}
 use Rattle.value.specs.declared.unit.Form.{Form}
 use Rattle.value.specs.declared.unit.Form.TheVariants.{Bytes, Utf8, Char16, Hex, Quoted, Encoded}

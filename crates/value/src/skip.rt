@@ -6,7 +6,7 @@ use crate::class::{Class, class_run, same_in};
 use crate::plain::{Skipped, skip_plain};
 use crate::unit::Form;
 use base::bytes::byte_at;
-use unicode::text::pass_text;
+use encoding::text::pass_text;
 
 // The last byte that a character beside a string literal may start with and be skipped: EF is first in U+FFFE and U+FFFF, which it can't hold.
 const HIGH: u8 = 0xee;

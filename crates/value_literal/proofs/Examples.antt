@@ -4,8 +4,8 @@ use Rattle.base.specs.Range
 use Rattle.base.specs.Walk
 use Rattle.base.specs.Digit
 use Rattle.base.specs.Vectors.{results, expected}
-use Rattle.unicode.specs.WellFormed
-use Rattle.unicode.specs.Scalar
+use Rattle.encoding.specs.WellFormed
+use Rattle.encoding.specs.Scalar
 use Rattle.scan.specs.Class
 use Rattle.string_literal.specs.Char
 use Rattle.string_literal.specs.Text

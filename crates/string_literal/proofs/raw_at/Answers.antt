@@ -1,7 +1,7 @@
 use native.Mathlib.Omega.{arith}
 use borrow.Author.Tests.{eq-eqb, ne_eqb}
-use Rattle.unicode.specs.Scalar.{scalar_at}
-use Rattle.unicode.proofs.WellFormed.{sequence_fits}
+use Rattle.encoding.specs.Scalar.{scalar_at}
+use Rattle.encoding.proofs.WellFormed.{sequence_fits}
 use Rattle.string_literal.specs.Char.{raw_at}
 use Rattle.string_literal.proofs.Ascii.{ascii_within, ascii_raw}
 use borrow.Author.Rules.{rules}

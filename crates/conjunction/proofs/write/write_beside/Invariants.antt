@@ -9,7 +9,7 @@ use Rattle.conjunction.proofs.Writing.{Writing}
 use Rattle.conjunction.proofs.write.write_beside.Given as goal
 
 abbrev pub invariant-loop-next : goal.invariant-loop-next
-invariant-loop-next l = Writing l.at l.q (text (each (chained (term_at l.a l.p)) (terms_of l.initial.out))) l.b place (text (each (chained (term_at l.a l.p)) (terms_from l.initial.out l.place)))
+invariant-loop-next l = Writing l.initial.out l.at (text (each (chained (term_at l.q l.a)) (terms_of l.p))) l.out l.place (text (each (chained (term_at l.q l.a)) (terms_from l.p l.b)))
 
 abbrev pub decreases-loop-next : goal.decreases-loop-next
-decreases-loop-next l = left l.initial.out l.place
+decreases-loop-next l = left l.p l.b

@@ -8,7 +8,7 @@ use Rattle.conjunction.proofs.Writing.{Writing}
 use Rattle.conjunction.proofs.write.write_conjunction.Given as goal
 
 abbrev pub invariant-loop-next : goal.invariant-loop-next
-invariant-loop-next l = Writing l.q 0 (conjunction l.p l.initial.out) l.a place (text (products (terms_from l.p l.place) (terms_of l.initial.out)))
+invariant-loop-next l = Writing l.initial.out 0 (conjunction l.q l.p) l.out l.place (text (products (terms_from l.q l.a) (terms_of l.p)))
 
 abbrev pub decreases-loop-next : goal.decreases-loop-next
-decreases-loop-next l = left l.p l.place
+decreases-loop-next l = left l.q l.a

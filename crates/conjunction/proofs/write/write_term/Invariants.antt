@@ -8,7 +8,7 @@ use Rattle.conjunction.proofs.Writing.{Writing}
 use Rattle.conjunction.proofs.write.write_term.Given as goal
 
 abbrev pub invariant-loop-op : goal.invariant-loop-op
-invariant-loop-op l = Writing l.at l.q (term_text (term_at l.initial.out l.initial.token)) l.token place (term_text (term_at l.initial.out l.place))
+invariant-loop-op l = Writing l.initial.out l.at (term_text (term_at l.q l.initial.token)) l.out l.place (term_text (term_at l.q l.token))
 
 abbrev pub decreases-loop-op : goal.decreases-loop-op
-decreases-loop-op l = left l.initial.out l.place
+decreases-loop-op l = left l.q l.token

@@ -1,7 +1,7 @@
 use borrow.Author.Rules.{rules}
 use Rattle.matcher.proofs.Texts as law
 use Rattle.matcher.proofs.Texts.{Matching}
-use Rattle.unicode.proofs.WellFormed.{sequence_fits}
+use Rattle.encoding.proofs.WellFormed.{sequence_fits}
 use native.Mathlib.Omega.{arith}
 use lib.ListN.{length}
 use Prim.Native.Nat.{◌-◌}

@@ -15,13 +15,13 @@ pub returns-in-BadRange : goal.returns-in-BadRange
 returns-in-BadRange c = c.loop-e.invariant _ (law.members_bad _ c.loop-e.i c.args.c c.loop-e.hit c.read_range.ensures c.in-BadRange.is)
 
 pub overflow_add-result : goal.overflow_add-result
-overflow_add-result c = let h = c.is_at.ensures.1 c.if-is_at.true in omega arith
+overflow_add-result c = let h = c.is_at.ensures.within c.if-is_at.true in omega arith
 
 pub returns-then-is_at : goal.returns-then-is_at
-returns-then-is_at c = c.loop-e.invariant _ (law.members_close _ c.loop-e.i c.args.c c.loop-e.hit c.read_range.ensures c.in-RangeTo.is c.is_at.ensures.0 c.if-is_at.true)
+returns-then-is_at c = c.loop-e.invariant _ (law.members_close _ c.loop-e.i c.args.c c.loop-e.hit c.read_range.ensures c.in-RangeTo.is c.is_at.ensures.means c.if-is_at.true)
 
 pub loop-e-smaller : goal.loop-e-smaller
 loop-e-smaller c = law.range_further _ c.loop-e.i c.read_range.ensures c.in-RangeTo.is
 
 pub loop-e-preserved : goal.loop-e-preserved
-loop-e-preserved c = λ y h. c.loop-e.invariant y (law.members_more _ c.loop-e.i c.args.c c.loop-e.hit c.read_range.ensures c.in-RangeTo.is c.is_at.ensures.0 c.if-is_at.false h)
+loop-e-preserved c = λ y h. c.loop-e.invariant y (law.members_more _ c.loop-e.i c.args.c c.loop-e.hit c.read_range.ensures c.in-RangeTo.is c.is_at.ensures.means c.if-is_at.false h)

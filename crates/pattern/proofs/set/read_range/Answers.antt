@@ -1,3 +1,5 @@
+use mathlib.Core.Bool.{not}
+use mathlib.Core.Path.{ap}
 use Rattle.pattern.proofs.Sets as law
 use native.Mathlib.Omega.{arith}
 use borrow.Author.Tests.{not-false}
@@ -8,7 +10,7 @@ pub returns-then-not-is_at : goal.returns-then-not-is_at
 returns-then-not-is_at c = search law.range_one
 
 pub overflow_add-e : goal.overflow_add-e
-overflow_add-e c = let h = c.is_at.ensures.1 (not-false _ c.if-not-is_at.false) in omega arith
+overflow_add-e c = let h = c.is_at.ensures.within (not-false _ (ap not c.if-not-is_at.false)) in omega arith
 
 pub returns-in-BadMember : goal.returns-in-BadMember
 returns-in-BadMember c = search law.range_none

@@ -7,7 +7,7 @@ use Rattle.text_writer.proofs.Written as law
 use Rattle.text_writer.proofs.buffer.write_text.Given as goal
 
 abbrev pub invariant-loop-i : goal.invariant-loop-i
-invariant-loop-i l = Written l.at l.text (take l.i l.initial.out) l.place l.out
+invariant-loop-i l = Written l.initial.out l.at (take l.i l.text) l.place l.out
 
 abbrev pub decreases-loop-i : goal.decreases-loop-i
-decreases-loop-i l = length l.initial.out - l.i
+decreases-loop-i l = length l.text - l.i

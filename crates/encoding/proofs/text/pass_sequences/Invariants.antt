@@ -1,0 +1,12 @@
+use borrow.Author.Rules.{rules}
+use Prim.Native.Nat.{◌-◌, ◌≤◌}
+use native.Mathlib.Omega.{arith}
+use Rattle.encoding.specs.Blocks.{Reaches, here}
+use Rattle.encoding.proofs.Blocks as law
+use Rattle.encoding.proofs.text.pass_sequences.Given as goal
+
+abbrev pub invariant-loop-next : goal.invariant-loop-next
+invariant-loop-next l = (l.at ≤ l.next) × ((l.next ≤ l.stop) × Reaches l.s l.at l.next)
+
+abbrev pub decreases-loop-next : goal.decreases-loop-next
+decreases-loop-next l = l.stop - l.next
