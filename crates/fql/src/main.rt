@@ -2,8 +2,8 @@
 // totals, or the one line of a refused call. What it writes is `report`'s output; here is only the reading and the writing.
 #![tactic(auto)]
 
-ghost use Rattle.std.specs.Prelude.{◌≤◌, length, OnOk};
-ghost use Rattle.std.specs.Io.KnownBytes.{Appends};
+ghost use Rattle.std.specs.Prelude.{ℕ, ◌<◌, ◌≤◌, length, take, OnOk};
+ghost use Rattle.std.specs.Io.KnownBytes.{Appends, Consumes, IsAtEnd};
 ghost use Rattle.report.specs.Output.{output};
 ghost use Rattle.fql.specs.Counts.{IsPrefixLen};
 
@@ -15,7 +15,9 @@ use std::rt::Files;
 
 // The open file's bytes at the start of `buf`, as far as it has room, and how many: none where a read fails, also after others that didn't.
 fn read_all<F: Read>(file: &mut F, buf: &mut [u8]) -> usize
-    ensures { IsPrefixLen result buf.new }
+    ensures count { IsPrefixLen result buf.new }
+    ensures bytes { 0 < result → Consumes (F.remaining file.old) (F.remaining file.new) (take result buf.new) }
+    ensures whole { 0 < result → result < length buf.new → IsAtEnd (F.remaining file.new) }
 {
     let mut done = 0;
     while done < buf.len() {
