@@ -2,8 +2,8 @@
 ghost use Rattle.std.specs.Prelude.{◌≡◌};
 ghost use Rattle.instance.specs.Body.{boolean_fits, text_fits, char16_fits, datetime_fits, is_numeric, family_fits, value_fits};
 
-use record::kind::{Family, ValueType};
 use encoding::text::Utf8;
+use record::kind::{Family, ValueType};
 
 fn boolean_fits(s: &[u8]) -> bool
     ensures { result ≡ boolean_fits s.now }

@@ -8,12 +8,12 @@ ghost use Rattle.matcher.specs.Remembered.{Remembers};
 use crate::live::Live;
 use crate::recent::{RECENT, prepare};
 use crate::remembered::{WORDS, hit_at};
+use encoding::count::count_from;
+use encoding::sequence::sequence_at;
 use pattern::fragment::Fragment;
 use pattern::hits::hits_of;
 use pattern::links::LINKS;
 use pattern::reader::{PatternRead, read_pattern};
-use encoding::count::count_from;
-use encoding::sequence::sequence_at;
 
 // Whether a text matches, and how many characters it has.
 #[derive(Drop)]

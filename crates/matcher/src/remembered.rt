@@ -6,8 +6,8 @@ ghost use Rattle.pattern.specs.Hits.{Hits};
 ghost use Rattle.matcher.specs.Remembered.{Remembers};
 
 use base::bytes::piece;
-use pattern::hits::hits_of;
 use encoding::scalar::scalar_of;
+use pattern::hits::hits_of;
 
 // A word for each character of ASCII: its symbols.
 const ASCII: usize = 128;

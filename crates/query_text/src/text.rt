@@ -3,8 +3,8 @@ ghost use Rattle.std.specs.Prelude.{◌≡◌};
 ghost use Rattle.query_text.specs.Text.{number_of, text_verdict};
 
 use crate::query::{Verdict, read_query};
-use syntax::fault::{Cause, Fault};
 use encoding::text::Utf8;
+use syntax::fault::{Cause, Fault};
 
 // 01's number of a refusal.
 pub fn number_of(cause: Cause) -> usize

@@ -8,9 +8,9 @@ ghost use Rattle.string_literal.specs.Text.{text_at, characters_of, end_or, stri
 
 use base::bytes::{byte_at, piece};
 use base::digit::{Size, read_value};
-use scan::{Class, run_end};
 use encoding::scalar::{is_scalar_value, scalar_of};
 use encoding::sequence::sequence_at;
+use scan::{Class, run_end};
 
 // What stands at a place inside a string literal: a character and where the next one starts, the closing quote, or neither.
 #[derive(Drop)]

@@ -5,10 +5,10 @@ ghost use Rattle.value.specs.Unit.{units_from, Steps};
 
 use base::bytes::{piece, widen};
 use base::digit::digit_of;
-use record::read::number_at;
-use string_literal::{InString, char_in_string};
 use encoding::scalar::scalar_of;
 use encoding::sequence::sequence_at;
+use record::read::number_at;
+use string_literal::{InString, char_in_string};
 
 // How the units stand in a slice: bytes as they are, the characters of UTF-8, the one character of a char16, bytes as pairs of hex digits, the characters of a
 // string literal from the place after its quote on, and the UTF-8 of these, of which the first bytes of the first character are skipped.

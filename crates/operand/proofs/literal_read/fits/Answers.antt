@@ -17,3 +17,11 @@ returns-in-Real c = search law.fits_real
 
 pub returns-in-Text : goal.returns-in-Text
 returns-in-Text c = search law.fits_text
+
+pub returns-in-Null : goal.returns-in-Null
+unfolding fits
+returns-in-Null c = search rules
+
+pub returns-in-NoLiteral : goal.returns-in-NoLiteral
+unfolding fits
+returns-in-NoLiteral c = search rules

@@ -4,4 +4,4 @@ use Rattle.terminal.proofs.kind.is_kind.Goals as goal
 
 pub returns : goal.returns
 unfolding same
-returns c = simp (c.code_of_lem.ensures, c.code_of-2.ensures)
+returns c = simp (c.code_of.ensures, c.code_of-2.ensures)
