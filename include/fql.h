@@ -14,7 +14,7 @@
    9,743 for fql_evaluate, 8,559 for fql_check and 512 for fql_fault_text. docs/PERFORMANCE.md has the time of the slowest
    inputs that are known.
 
-   Link with libfql_export.a, which `rt staticlib fql_export` writes into target/staticlib. */
+   Link with libfql_export.a, which `rt lib` in crates/fql_export writes into crates/fql_export/out. */
 #ifndef FQL_H
 #define FQL_H
 

@@ -2,66 +2,86 @@
 // totals, or the one line of a refused call. What it writes is `report`'s output; here is only the reading and the writing.
 #![tactic(auto)]
 
-ghost use Rattle.std.specs.Prelude.{◌≤◌, length};
-ghost use Rattle.io.specs.Counts.{IsPrefixLen};
+ghost use Rattle.std.specs.Prelude.{ℕ, ◌<◌, ◌≤◌, length, take, OnOk};
+ghost use Rattle.std.specs.Io.KnownBytes.{Appends, Consumes, IsAtEnd};
+ghost use Rattle.report.specs.Output.{output};
+ghost use Rattle.fql.specs.Counts.{IsPrefixLen};
 
-use libc::STDOUT_FILENO;
 use report::output::{OUTPUT_LIMIT, write_output};
+use std::fs::File;
+use std::io;
+use std::io::{Read, Write};
+use std::rt::Files;
 
 // The open file's bytes at the start of `buf`, as far as it has room, and how many: none where a read fails, also after others that didn't.
-fn read_all(fd: i32, buf: &mut [u8]) -> usize
-    ensures { IsPrefixLen result buf.new }
+fn read_all<F: Read>(file: &mut F, buf: &mut [u8]) -> usize
+    ensures count { IsPrefixLen result buf.new }
+    ensures bytes { 0 < result → Consumes (F.remaining file.old) (F.remaining file.new) (take result buf.new) }
+    ensures whole { 0 < result → result < length buf.new → IsAtEnd (F.remaining file.new) }
 {
     let mut done = 0;
     while done < buf.len() {
-        let rest = &mut buf[done..];
-        let got = libc::read(fd, rest);
-        if got < 0 {
-            return 0;
+        match file.read(&mut buf[done..]) {
+            Ok(0) => return done,
+            Ok(n) => done += n,
+            Err(_) => return 0,
         }
-        let n = io::count(got, rest);
-        if n == 0 {
-            return done;
-        }
-        done += n;
     }
     done
 }
 
 // "One that can't be read counts as empty."
-fn read_file(path: &[u8], buf: &mut [u8]) -> usize
+fn read_file(rt: &impl Files, path: &str, buf: &mut [u8]) -> usize
     ensures { IsPrefixLen result buf.new }
 {
-    let fd = os::open_read(path);
-    if fd < 0 {
-        return 0;
+    match File::open(rt, path) {
+        Ok(mut file) => read_all(&mut file, buf),
+        Err(_) => 0,
     }
-    let n = read_all(fd, buf);
-    libc::close(fd);
-    n
 }
 
-// The buffer has room for every output.
-fn print_output<'a>(out: &mut [u8], query: &'a [u8], table: &'a [u8], run: &'a [u8])
+// The buffer has room for every output, and what is written is all of it.
+fn print_output<'a, W: Write>(
+    to: &mut W,
+    out: &mut [u8],
+    query: &'a [u8],
+    table: &'a [u8],
+    run: &'a [u8],
+) -> io::Result<()>
     requires { OUTPUT_LIMIT ≤ length out.old }
+    ensures { OnOk result (Appends (W.contents to.old) (W.contents to.new) (output query.now table.now run.now)) }
 {
     let n = write_output(out, query, table, run);
-    io::write_all(STDOUT_FILENO, &out[..n]);
+    to.write_all(&out[..n])
 }
 
 // The buffer comes as an array, whose length is its type's: as a slice of zeros it would be counted byte by byte in the proof of its length.
-fn print_whole<'a>(out: &mut [u8; OUTPUT_LIMIT], query: &'a [u8], table: &'a [u8], run: &'a [u8]) {
-    print_output(out, query, table, run);
+fn print_whole<'a, W: Write>(
+    to: &mut W,
+    out: &mut [u8; OUTPUT_LIMIT],
+    query: &'a [u8],
+    table: &'a [u8],
+    run: &'a [u8],
+) -> io::Result<()>
+    ensures { OnOk result (Appends (W.contents to.old) (W.contents to.new) (output query.now table.now run.now)) }
+{
+    print_output(to, out, query, table, run)
 }
 
 // A buffer has a byte more than its limit, so that a longer file is seen to be longer.
-fn main() {
+fn main(rt: HostRuntime) -> io::Result<()> {
     let mut table = [0u8; 8193];
-    let t = read_file(b"table", &mut table);
+    let t = read_file(&rt, "table", &mut table);
     let mut query = [0u8; 4097];
-    let q = read_file(b"query", &mut query);
+    let q = read_file(&rt, "query", &mut query);
     let mut run = [0u8; 65537];
-    let r = read_file(b"run", &mut run);
+    let r = read_file(&rt, "run", &mut run);
     let mut out = [0u8; OUTPUT_LIMIT];
-    print_whole(&mut out, &query[..q], &table[..t], &run[..r]);
+    print_whole(
+        &mut io::writer(&rt),
+        &mut out,
+        &query[..q],
+        &table[..t],
+        &run[..r],
+    )
 }

@@ -22,16 +22,16 @@ use watch::refusal::Watched;
 use watch::watch::watch;
 
 // A refusal's number and place; number 0 where there is none.
-#[repr(C)]
 #[derive(Drop)]
+#[repr(C)]
 pub struct FqlRefusal {
     pub number: u64,
     pub place: u64,
 }
 
 // Where the number is 0, whether the instance is included (1 or 0) and the steps.
-#[repr(C)]
 #[derive(Drop)]
+#[repr(C)]
 pub struct FqlAnswer {
     pub number: u64,
     pub place: u64,
@@ -40,8 +40,8 @@ pub struct FqlAnswer {
 }
 
 // Where the number is 0, how many instances of the run are included, are excluded and failed.
-#[repr(C)]
 #[derive(Drop)]
+#[repr(C)]
 pub struct FqlTotals {
     pub number: u64,
     pub place: u64,
@@ -51,8 +51,8 @@ pub struct FqlTotals {
 }
 
 // Where the number is 0, how many instances of the run are marked 1 and 0.
-#[repr(C)]
 #[derive(Drop)]
+#[repr(C)]
 pub struct FqlWatched {
     pub number: u64,
     pub place: u64,
@@ -61,8 +61,8 @@ pub struct FqlWatched {
 }
 
 // Where the number is 0, the text's length; else which query is at fault (1 the first, 2 the second, 0 neither).
-#[repr(C)]
 #[derive(Drop)]
+#[repr(C)]
 pub struct FqlConjoined {
     pub number: u64,
     pub place: u64,
@@ -71,8 +71,8 @@ pub struct FqlConjoined {
 }
 
 // Which text (0 none, 1 the query, 2 the table), from which byte on, and how many bytes of it.
-#[repr(C)]
 #[derive(Drop)]
+#[repr(C)]
 pub struct FqlPart {
     pub source: u64,
     pub start: u64,

@@ -1,5 +1,5 @@
 //! Safe calls of the proved engine for DMTF's Filter Query Language (DSP0212), by way of the archive that
-//! `rt staticlib fql_export` writes.
+//! `rt lib` in `crates/fql_export` writes.
 //!
 //! A filter is a query's text; a table says which properties a class has and of what [types]; an instance holds their
 //! values. Tables and instances are [records](record). Every function takes bytes of any content and length, and

@@ -23,7 +23,7 @@ fn folder(name: &str) -> PathBuf {
 }
 
 fn program_path() -> &'static Path {
-    let path = Path::new(concat!(env!("CARGO_MANIFEST_DIR"), "/../../target/bin/fql"));
+    let path = Path::new(concat!(env!("CARGO_MANIFEST_DIR"), "/../../crates/fql/out/fql"));
     assert!(path.exists(), "the program is missing: it has to be built as {} before this test", path.display());
     path
 }

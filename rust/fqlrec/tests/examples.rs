@@ -29,7 +29,7 @@ fn are_made_from_their_text() {
 
 #[test]
 fn print_what_is_stored() {
-    let program = Path::new(ROOT).join("target/bin/fql");
+    let program = Path::new(ROOT).join("crates/fql/out/fql");
     assert!(program.exists(), "the program is missing: it has to be built as {}", program.display());
     for folder in folders() {
         let out = Command::new(fs::canonicalize(&program).unwrap()).current_dir(&folder).output().unwrap();

@@ -1,6 +1,10 @@
-use lib.ListN.{length-take}
-use borrow.Author.Rules.{rules}
+use Rattle.std.proofs.Common.{arith, take, ◌≡◌}
+use Rattle.report.specs.Output.{output}
+use Rattle.text_writer.proofs.Written.{written_whole}
 use Rattle.fql.proofs.print_output.Goals as goal
 
-pub slice_bounds-write_all-end-2 : goal.slice_bounds-write_all-end-2
-slice_bounds-write_all-end-2 c = simp length-take (search rules)
+pub returns : goal.returns
+returns g c =
+    let whole : take c.write_output-n.result c.write_output-n.new.out ≡ output c.args.query.now c.args.table.now c.args.run.now
+    = written_whole c.write_output-n.ensures.written (omega (arith, c.write_output-n.ensures.fits, c.requires)) in
+    rw (← whole) c.write_all.ensures.bytes
