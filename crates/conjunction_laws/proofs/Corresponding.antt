@@ -5,7 +5,7 @@ use Rattle.token.specs.declared.Token.{Token}
 use Rattle.terminal.proofs.Inside.{joins_inside}
 use Rattle.syntax.specs.declared.comparison.Comparison.{Comparison}
 use Rattle.syntax.specs.declared.comparison.ComparisonResult.{ComparisonResult}
-use Rattle.syntax.specs.declared.comparison.ComparisonResult.TheVariants.{HasComparison}
+use Rattle.syntax.specs.declared.comparison.ComparisonResult.TheVariants.{HasComparison, NoComparison}
 use Rattle.syntax.specs.Scan.{Scan}
 use Rattle.syntax.specs.Comparison.{property_comp}
 use Rattle.syntax.proofs.Simulation as pairs
@@ -44,6 +44,7 @@ module _ {s z : Scan} {R : Token → Token → Type 0} (S : Simulates s z R) (en
 
   read_there : (c : Comparison) (m y : Token) (b : ComparisonResult) → property_comp z y ≡ b → ComparisonResults s z R (HasComparison c m) b → Read-there c m y
   read_there c m y (HasComparison d n) e (has h k) = record { other = d; after = n; reads = e; corresponds = h; afters = k }
+  read_there c m y (NoComparison _) e h = elim h [ ]
 
   there : {x y m : Token} {c : Comparison} → R x y → property_comp s x ≡ HasComparison c m → Read-there c m y
   there {x} {y} {m} {c} r e = read_there c m y (property_comp z y) refl (rw e at (comparison_alike S enough other-enough r))

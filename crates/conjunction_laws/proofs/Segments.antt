@@ -114,7 +114,7 @@ module _ (s : Scan) where
   unfolding size before
   read_last g {l = l} h a zero k = absurd (omega (arith, some_size l))
   read_last g (ends {t = t} e f) a (suc n) k = one_step n g t ∙ step_last n g t e f a
-  read_last g (goes {t = t} e f h) a (suc n) k = one_step n g t ∙ ap (continued n g) (step_inner g t e f) ∙ rw (read_last g h a n (omega arith)) refl
+  read_last g (goes {t = t} {m = m} e f h) a (suc n) k = one_step n g t ∙ ap (continued n g) (step_inner g t e f) ∙ rw (read_last g {t = s.next m} h a n (omega arith)) refl
 
   pub read_more : {t w : Token} {l : Comparisons} {o : BoolOp} → Segment s t l w → Onward w o → (n m : ℕ) → n ≡ size l + m → query_from n s true t ≡ before_all l (Outer o) (query_from m s true (beyond w))
   unfolding size
@@ -122,8 +122,8 @@ module _ (s : Scan) where
   read_more {o = p} (ends {t = t} {w = w} {c = c} e f) a (suc n) m k =
       let z : n ≡ m = omega arith in
       one_step n true t ∙ ap (continued n true) (step_outer t e f a) ∙ rw z (before_one c (Outer p) (query_from m s true (beyond w)))
-  read_more {w = w} {o = p} (goes {t = t} {c = c} {o = o} {l = l} e f h) a (suc n) m k =
-      one_step n true t ∙ ap (continued n true) (step_inner true t e f) ∙ ap (before c (Inner o)) (read_more h a n m (omega arith)) ∙ before_more c (Inner o) l (Outer p) (query_from m s true (beyond w))
+  read_more {w = w} {o = p} (goes {t = t} {m = m'} {c = c} {o = o} {l = l} e f h) a (suc n) m k =
+      one_step n true t ∙ ap (continued n true) (step_inner true t e f) ∙ ap (before c (Inner o)) (read_more {t = s.next m'} h a n m (omega arith)) ∙ before_more c (Inner o) l (Outer p) (query_from m s true (beyond w))
 
   -- ---- what was read, group by group
   pub data Split (g : Bool) (t : Token) (L : Comparisons) : Type 0 where

@@ -10,7 +10,7 @@ use Rattle.report.proofs.Writing.{Writing, answers_at}
 use Rattle.report.proofs.output.write_answers.Given as goal
 
 abbrev pub invariant-loop-start : goal.invariant-loop-start
-invariant-loop-start l = Writing (answers_of l.table l.run l.opened) l.query l.out l.place l.count l.totals (answers_at l.table l.run l.opened l.at) × (length l.notes ≡ 128)
+invariant-loop-start l = Writing (answers_of l.query l.table l.run) l.initial.out l.out l.place l.count l.totals (answers_at l.query l.table l.run l.at) × (length l.notes ≡ 128)
 
 abbrev pub decreases-loop-start : goal.decreases-loop-start
-decreases-loop-start l = length l.opened - l.at
+decreases-loop-start l = length l.run - l.at

@@ -9,7 +9,7 @@ pub write_run-requires : goal.write_run-requires
 write_run-requires c = search filter.accepts
 
 pub returns-in-Refused : goal.returns-in-Refused
-returns-in-Refused c = (search law.refused_written, fits.refused_fits _ _ _ c.check.ensures c.in-Refused.is (search rules) (omega arith))
+returns-in-Refused c = record { written = search law.refused_written; fits = fits.refused_fits _ _ _ c.check.ensures c.in-Refused.is (search rules) (omega arith) }
 
 pub returns-in-Accepted : goal.returns-in-Accepted
-returns-in-Accepted c = (search law.accepted_written, search fits.accepted_fits)
+returns-in-Accepted c = record { written = search law.accepted_written; fits = search fits.accepted_fits }

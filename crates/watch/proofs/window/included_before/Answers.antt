@@ -12,7 +12,7 @@ pub returns-then-end-i : goal.returns-then-end-i
 returns-then-end-i c = search law.counting_all
 
 pub overflow_add-ones : goal.overflow_add-ones
-overflow_add-ones c = let m = law.counting_fits _ _ _ _ _ c.requires c.loop-i.invariant c.if-end-i.false c.one_of.ensures in omega arith
+overflow_add-ones c = let m = law.counting_fits _ _ _ _ _ c.requires c.loop-i.invariant c.if-end-i.false c.one_of-ones.ensures in omega arith
 
 pub loop-i-preserved : goal.loop-i-preserved
 loop-i-preserved c = search law.counting_next

@@ -14,7 +14,7 @@ pub bounds-marks-left : goal.bounds-marks-left
 bounds-marks-left c = search law.passing_room
 
 pub overflow_add-ones : goal.overflow_add-ones
-overflow_add-ones c = let m = law.passing_fits _ _ _ _ _ _ _ _ c.loop-left.invariant c.loop-left-test.true c.window_mark-mark.result c.one_of.ensures in omega arith
+overflow_add-ones c = let m = law.passing_fits _ _ _ _ _ _ _ _ c.loop-left.invariant c.loop-left-test.true c.window_mark-mark.result c.one_of-ones.ensures in omega arith
 
 pub loop-left-preserved : goal.loop-left-preserved
 loop-left-preserved c = search law.passing_next
