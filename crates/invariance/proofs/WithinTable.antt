@@ -2,7 +2,7 @@
 use Prim.Native.Nat.{ℕ, ◌<◌}
 use mathlib.Core.Path.{◌≡◌, refl}
 use mathlib.Core.List.{List}
-use mathlib.Core.Logic.{inl}
+use mathlib.Core.Logic.{inl, inr}
 use lib.ListN.{length}
 use Rattle.table.specs.Properties.{kinds_of}
 use Rattle.table.specs.declared.lookup.Found.{Found}
@@ -28,6 +28,7 @@ module _ (q t : List ℕ) where
     where
       go : (x : Found) → named q t p ≡ x → Member n (property_of x) → n < length (kinds_of t)
       go (found.Property m k) e (inl d) = rw d (path_within p m k e)
+      go (found.Property m k) e (inr w) = elim w [ ]
       go found.Absent e w = absurd w
 
   right_within : (r : RightSide) (n : ℕ) → Member n (named_right q t r) → n < length (kinds_of t)
