@@ -1,0 +1,4 @@
+pub mod Comparisons
+pub mod Reading
+pub mod Acceptable
+pub mod ReadAgain

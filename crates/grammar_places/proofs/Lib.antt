@@ -1,0 +1,12 @@
+pub mod Numbers
+pub mod Begun
+pub mod Rules
+pub mod Sound
+pub mod LeftSide
+pub mod RightSide
+pub mod Comparison
+pub mod Query
+pub mod Cut
+pub mod Spelled
+pub mod Continued
+pub mod Place
