@@ -1,4 +1,4 @@
-// The reader of 01 "Query text". What takes or makes a struct that holds a reference is proved by hand, so each function is one step: the work stands in
+// The reader of 01 "Query text": a slice and an offset. Each function is one step: the work stands in
 // `first`, and other crates call `token_at` and `token_after`, whose parameters are plain.
 ghost use Rattle.std.specs.Prelude.{◌≡◌, length};
 ghost use Rattle.token.specs.Token.{SpansIf};
