@@ -10,3 +10,4 @@ pub mod Steps
 pub mod Local
 pub mod Stands
 pub mod Bounds
+pub mod Calls
