@@ -1,19 +1,17 @@
 -- The check accepts exactly the acceptable queries, for all bytes.
+use Rattle.std.specs.Prelude.{Err, Ok}
 use Prim.Native.Nat.{ℕ}
 use mathlib.Core.Path.{◌≡◌, refl, sym, subst}
 use mathlib.Core.List.{List}
 use mathlib.Core.Logic.{◌↔◌}
 use native.Mathlib.Omega.{arith}
-use Rattle.table.specs.Table.{IsGood, table_reading}
-use Rattle.table.specs.declared.validate.TableReading.{TableReading}
-use Rattle.table.specs.declared.validate.TableReading.TheVariants as table-reading
+use Rattle.table.specs.Table.{IsGood, Reading, table_reading}
 use Rattle.syntax.specs.declared.comparison.Comparison.{Comparison}
 use Rattle.query_text.specs.Query.{Comparisons, only, more}
 use Rattle.operand.specs.declared.cause.Cause.{Cause}
 use Rattle.grammar.proofs.Exact.{exact}
 use Rattle.filter.specs.Check as Check
 use Rattle.filter.specs.Check.{Verdict, passes, breaks, check_comparison, check_all, check}
-use Rattle.filter.specs.declared.refusal.Checked.TheVariants.{Accepted}
 use Rattle.filter.proofs.Accepted.{Accepts, accepts, is_accepted}
 use Rattle.acceptance.specs.Reading.{Among, alone, first, later}
 use Rattle.acceptance.specs.Acceptable.{Acceptable}
@@ -41,9 +39,9 @@ module _ (q t : List ℕ) where
   all_pass (only c) h = h c alone
   all_pass (more c j l) h = rw (h c first) (all_pass l (λ d i. h d (later i)))
 
-  counted : (r : TableReading) → IsGood r → (n : ℕ) × (r ≡ table-reading.Good n)
-  counted (table-reading.Good n) h = (n, refl)
-  counted (table-reading.Fault c p) h = absurd h
+  counted : (r : Reading) → IsGood r → (n : ℕ) × (r ≡ Ok n)
+  counted (Ok n) h = (n, refl)
+  counted (Err f) h = absurd h
 
   accepting : Acceptable q t → Accepts q t
   accepting a =
@@ -64,5 +62,5 @@ module _ (q t : List ℕ) where
 
   -- A query is accepted exactly when the table is free of faults, the text has at most 4,096 bytes, is UTF-8 and derives from DSP0212's `fql` within the limits, and each of its
   -- comparisons passes. Nothing is asked of the query or of the table; both are any bytes.
-  pub accepted_exactly : (check q t ≡ Accepted) ↔ Acceptable q t
+  pub accepted_exactly : (check q t ≡ Ok tt) ↔ Acceptable q t
   accepted_exactly = (λ e. acceptable (accepts q t e), λ a. is_accepted (accepting a))

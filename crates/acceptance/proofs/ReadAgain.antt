@@ -4,7 +4,7 @@ use mathlib.Core.Path.{◌≡◌, refl, sym, ap, ◌∙◌, subst}
 use mathlib.Core.List.{List, [], ◌∷◌}
 use mathlib.Core.Bool.{true}
 use native.Mathlib.Omega.{arith}
-use Rattle.std.specs.Prelude.{All}
+use Rattle.std.specs.Prelude.{All, Some}
 use Rattle.std.proofs.lemmas.List.Elements.{All-cons}
 use Rattle.token.specs.declared.Punctuation.TheVariants.{OpenList, Comma}
 use Rattle.token.specs.declared.Reserved.TheVariants.{Like}
@@ -12,7 +12,6 @@ use Rattle.token.specs.declared.TokenKind.TheVariants.{Symbol, Word}
 use Rattle.token.specs.declared.Token.{Token}
 use Rattle.token.specs.Token.{token_after}
 use Rattle.terminal.specs.Terminal.{same}
-use Rattle.syntax.specs.declared.path.Index.TheVariants.{At}
 use Rattle.syntax.specs.declared.comparison.Comparison.{Comparison}
 use Rattle.syntax.specs.Scan.{scan}
 use Rattle.query_text.specs.declared.join.Join.{Join}
@@ -76,7 +75,7 @@ module _ (q : List ℕ) where
   unfolding pattern_right
   pattern_again m (one l) = pattern_stands q m l
 
-  index_again : {t e : Token} (g : Fits (scan q) (in_brackets (scan q)) t e) → IndexAgain q (At (index_in g))
+  index_again : {t e : Token} (g : Fits (scan q) (in_brackets (scan q)) t e) → IndexAgain q (Some (index_in g))
   unfolding index_in
   index_again (join (one {t = t} o) (join (one u) c)) = index_stands q t u
 

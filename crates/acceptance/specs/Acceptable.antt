@@ -1,7 +1,6 @@
 -- Which queries the check is to accept: those that DSP0212's grammar, its compatibility rules and the limits allow, by the definitions that each of them has.
 -- proofs/Accepted proves that `check` accepts exactly these.
-use Rattle.std.specs.Prelude.{ℕ, ◌≤◌, List, length, ◌≡◌}
-use Rattle.encoding.specs.declared.text.Utf8.TheVariants.{WellFormed}
+use Rattle.std.specs.Prelude.{ℕ, ◌≤◌, List, length, ◌≡◌, Ok}
 use Rattle.encoding.specs.WellFormed.{first_ill_formed}
 use Rattle.table.specs.Table.{FreeOfFaults}
 use Rattle.syntax.specs.declared.comparison.Comparison.{Comparison}
@@ -19,7 +18,7 @@ pub record Acceptable (query table : List ℕ) : Type 0 where
   -- at most 4,096 bytes
   pub short : length query ≤ 4096
   -- that are UTF-8
-  pub encoded : first_ill_formed query ≡ WellFormed
+  pub encoded : first_ill_formed query ≡ Ok tt
   -- whose tokens derive from `fql`, with at most 64 comparisons and 32 elements in an array literal
   pub derives : (d : Derives (scan query)) × WithinLimits d.1
   -- each of the derivation's comparisons passes

@@ -1,5 +1,5 @@
 -- The comparisons of a derivation from DSP0212's rule `fql` (DSP0212 5.3.2), each from the tokens of its property-comp, with what joins it to the next.
-use Rattle.std.specs.Prelude.{ℕ, suc, ◌≡◌, List, [], ◌∷◌, Bool, true, false}
+use Rattle.std.specs.Prelude.{ℕ, suc, ◌≡◌, List, [], ◌∷◌, Bool, true, false, None, Option, Some}
 use Rattle.std.proofs.lemmas.Bool.{false≢true}
 use Rattle.base.specs.declared.order.Operator.{Operator}
 use Rattle.token.specs.declared.Punctuation.TheVariants.{Comma}
@@ -9,12 +9,8 @@ use Rattle.terminal.specs.declared.quantifier.Quantifier.{Quantifier}
 use Rattle.terminal.specs.declared.quantifier.Quantifier.TheVariants.{Single, Any, Every}
 use Rattle.terminal.specs.declared.operator.BoolOp.{BoolOp}
 use Rattle.terminal.specs.declared.operator.BoolOp.TheVariants.{And, Or}
-use Rattle.terminal.specs.declared.operator.Comparing.{Comparing}
-use Rattle.terminal.specs.declared.operator.Comparing.TheVariants.{By, NoOperator}
 use Rattle.terminal.specs.Terminal.{comparing}
 use Rattle.syntax.specs.declared.path.Path.{Path}
-use Rattle.syntax.specs.declared.path.Index.{Index}
-use Rattle.syntax.specs.declared.path.Index.TheVariants.{Whole, At}
 use Rattle.syntax.specs.declared.operation.Operation.{Operation}
 use Rattle.syntax.specs.declared.operation.Operation.TheVariants.{Compare, Like, NotLike}
 use Rattle.syntax.specs.declared.left_side.LeftSide.{LeftSide}
@@ -43,14 +39,14 @@ unfoldable pub index_in : {s : Scan} {t e : Token} → Fits s (in_brackets s) t 
 index_in (join o (join (one {t = t} u) c)) = t
 
 -- ---- the left side
-abbrev pub left_from : Token → Bool → Quantifier → Path → Index → LeftSide
+abbrev pub left_from : Token → Bool → Quantifier → Path → Option Token → LeftSide
 left_from t n k p i = record { start = t.start; negated = n; quantifier = k; path = p; index = i }
 
 unfoldable pub plain_left : {s : Scan} {t e : Token} → Fits s property t e → LeftSide
-plain_left {s} {t} f = left_from t false Single (path_of f) Whole
+plain_left {s} {t} f = left_from t false Single (path_of f) None
 
 unfoldable pub element_left : {s : Scan} {t e : Token} → Fits s (element s) t e → LeftSide
-element_left {s} {t} (join f g) = left_from t false Single (path_of f) (At (index_in g))
+element_left {s} {t} (join f g) = left_from t false Single (path_of f) (Some (index_in g))
 
 unfoldable pub is_negated : {s : Scan} {t e : Token} → Fits s array_op t e → Bool
 is_negated (join none o) = false
@@ -61,16 +57,16 @@ quantifier_of (join n (left a)) = Any
 quantifier_of (join n (right e)) = Every
 
 unfoldable pub each_left : {s : Scan} {t e : Token} → Fits s (then array_op property) t e → LeftSide
-each_left {s} {t} (join o f) = left_from t (is_negated o) (quantifier_of o) (path_of f) Whole
+each_left {s} {t} (join o f) = left_from t (is_negated o) (quantifier_of o) (path_of f) None
 
 -- ---- the operator
-abbrev pub operator_by : (k : Comparing) → operates k ≡ true → Operator
-operator_by (By o) e = o
-operator_by NoOperator e = absurd (false≢true e)
+abbrev pub operator_by : (k : Option Operator) → operates k ≡ true → Operator
+operator_by (Some o) e = o
+operator_by None e = absurd (false≢true e)
 
-abbrev pub equator_by : (k : Comparing) → equates k ≡ true → Operator
-equator_by (By o) e = o
-equator_by NoOperator e = absurd (false≢true e)
+abbrev pub equator_by : (k : Option Operator) → equates k ≡ true → Operator
+equator_by (Some o) e = o
+equator_by None e = absurd (false≢true e)
 
 unfoldable pub scalar_operation : {s : Scan} {t e : Token} → Fits s scalar_comp_op t e → Operation
 scalar_operation (one {t = t} e) = Compare (operator_by (comparing t) e)
@@ -90,10 +86,10 @@ unfoldable pub pattern_right : {s : Scan} {t e : Token} → Fits s like_pattern 
 pattern_right {s} {t} f = Pattern t
 
 unfoldable pub plain_right : {s : Scan} {t e : Token} → Fits s property t e → RightSide
-plain_right f = Property (path_of f) Whole
+plain_right f = Property (path_of f) None
 
 unfoldable pub element_right : {s : Scan} {t e : Token} → Fits s (element s) t e → RightSide
-element_right (join f g) = Property (path_of f) (At (index_in g))
+element_right (join f g) = Property (path_of f) (Some (index_in g))
 
 unfoldable pub close_of : {s : Scan} {t e : Token} → Fits s array_literal_rule t e → Token
 close_of (join o (join {m = t} l c)) = t

@@ -1,12 +1,10 @@
 -- A comparison holds places in the query's text, and the check and Meaning read literals, elements, indices and patterns again from there.
 -- This is what it takes for that to be what the grammar read (DSP0212 5.3.2); proofs/ReadAgain proves it of every comparison of every query.
-use Rattle.std.specs.Prelude.{ℕ, ◌<◌, List, length, All, true, ◌≡◌}
+use Rattle.std.specs.Prelude.{ℕ, ◌<◌, List, length, All, true, ◌≡◌, None, Option, Some}
 use Rattle.token.specs.declared.TokenKind.TheVariants.{Text}
 use Rattle.token.specs.declared.Token.{Token}
 use Rattle.token.specs.Token.{token_at}
 use Rattle.terminal.specs.Terminal.{literal, unsigned}
-use Rattle.syntax.specs.declared.path.Index.{Index}
-use Rattle.syntax.specs.declared.path.Index.TheVariants.{Whole, At}
 use Rattle.syntax.specs.declared.right_side.RightSide.{RightSide}
 use Rattle.syntax.specs.declared.right_side.RightSide.TheVariants.{Literal, Elements, Property, Pattern}
 use Rattle.syntax.specs.declared.comparison.Comparison.{Comparison}
@@ -42,9 +40,9 @@ pub record IsArray (query : List ℕ) (start count : ℕ) : Type 0 where
   pub listed : element_tokens query start count ≡ literals_of derives
   pub literals : All (IsLiteral query) (element_tokens query start count)
 
-abbrev pub IndexAgain : (query : List ℕ) → Index → Type 0
-IndexAgain q Whole = Unit
-IndexAgain q (At t) = IsIndex q t
+abbrev pub IndexAgain : (query : List ℕ) → Option Token → Type 0
+IndexAgain q None = Unit
+IndexAgain q (Some t) = IsIndex q t
 
 abbrev pub RightAgain : (query : List ℕ) → RightSide → Type 0
 RightAgain q (Literal t) = IsLiteral q t

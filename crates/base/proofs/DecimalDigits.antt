@@ -52,8 +52,8 @@ module _ (s : List ℕ) (at n i : ℕ) (digits : all_digits 10 s at n ≡ true) 
   unfolding digit_of
   decimal_of b h = rw (inside b h) refl
 
-  pub decimal_next : {v b : ℕ} → v ≡ value_of 10 0 s at i → b ≡ byte_at s (at + i) → v * 10 + (b - 48) ≡ value_of 10 0 s at (i + 1)
-  decimal_next {v} e f = rw f (value_next 10 0 v s at i _ e (decimal_of (byte_at s (at + i)) (decimal_digits s at n i digits here)))
+  pub decimal_next : {v d : ℕ} → v ≡ value_of 10 0 s at i → d ≡ byte_at s (at + i) - 48 → v * 10 + d ≡ value_of 10 0 s at (i + 1)
+  decimal_next {v} e f = value_next 10 0 v s at i _ e (f ∙ decimal_of (byte_at s (at + i)) (decimal_digits s at n i digits here))
 
   -- so few digits write a number far below 2^64
   pub decimal_small : n ≤ 15 → {v : ℕ} → v ≡ value_of 10 0 s at i → v < 1000000000000000

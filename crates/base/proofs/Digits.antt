@@ -12,8 +12,7 @@ use borrow.Author.Tests.{le-leb, lt-leb, leb-true, leb-false, lt-ltb, ltb-true}
 use Rattle.base.specs.Part.{byte_at}
 use Rattle.base.specs.Range.{within}
 use Rattle.base.specs.Digit.{digit_of, all_digits, value_of, size_under}
-use Rattle.base.specs.declared.digit.Size.{Size}
-use Rattle.base.specs.declared.digit.Size.TheVariants.{Fits, TooLarge}
+use Rattle.std.specs.Prelude.{Option, Some, None}
 use Rattle.base.proofs.Says.{and_both}
 
 -- the ends of a range
@@ -96,36 +95,36 @@ fits_more base limit v d b l h = go (leb (v * base + d) limit) refl
 pub over_more : (base limit v d : ℕ) → 0 < base → d ≤ limit → (limit - d) / base < v → limit < v * base + d
 over_more base limit v d b l h = omega (arith, (div-lt_iff_lt-mul {k = base} {x = limit - d} {y = v} b).0 h)
 
-pub size_fits : (limit v n : ℕ) → v ≡ n → v ≤ limit → Fits v ≡ size_under limit n
+pub size_fits : (limit v n : ℕ) → v ≡ n → v ≤ limit → Some v ≡ size_under limit n
 unfolding size_under
 size_fits limit v n e h = rw (← e, le-leb v limit h)
 
-pub size_large : (limit v n : ℕ) → limit < v → v ≤ n → TooLarge ≡ size_under limit n
+pub size_large : (limit v n : ℕ) → limit < v → v ≤ n → None ≡ size_under limit n
 unfolding size_under
 size_large limit v n h k = rw (lt-leb n limit (omega arith))
 
 -- what a size tells of the number that it was made of
-module _ {s : Size} (limit n : ℕ) (e : s ≡ size_under limit n) where
-  pub fits_value : (v : ℕ) → s ≡ Fits v → v ≡ n
+module _ {s : Option ℕ} (limit n : ℕ) (e : s ≡ size_under limit n) where
+  pub fits_value : (v : ℕ) → s ≡ Some v → v ≡ n
   unfolding size_under
   fits_value v f = go (leb n limit) refl
     where
       go : (t : Bool) → leb n limit ≡ t → v ≡ n
-      go true h = let z : Fits n ≡ Fits v = sym (e ∙ rw h refl) ∙ f in cc
-      go false h = let z : TooLarge ≡ Fits v = sym (e ∙ rw h refl) ∙ f in cc
+      go true h = let z : Some n ≡ Some v = sym (e ∙ rw h refl) ∙ f in cc
+      go false h = let z : None ≡ Some v = sym (e ∙ rw h refl) ∙ f in cc
 
-  pub large_value : s ≡ TooLarge → limit < n
+  pub large_value : s ≡ None → limit < n
   unfolding size_under
   large_value f = go (leb n limit) refl
     where
       go : (t : Bool) → leb n limit ≡ t → limit < n
-      go true h = let z : Fits n ≡ TooLarge = sym (e ∙ rw h refl) ∙ f in let y : ◌≡◌ {A = ℕ} 0 1 = cc in omega arith
+      go true h = let z : Some n ≡ None = sym (e ∙ rw h refl) ∙ f in let y : ◌≡◌ {A = ℕ} 0 1 = cc in omega arith
       go false h = leb-false n limit h
 
-  pub fits_limit : (v : ℕ) → s ≡ Fits v → v ≤ limit
+  pub fits_limit : (v : ℕ) → s ≡ Some v → v ≤ limit
   unfolding size_under
   fits_limit v f = go (leb n limit) refl
     where
       go : (t : Bool) → leb n limit ≡ t → v ≤ limit
-      go true h = let z : Fits n ≡ Fits v = sym (e ∙ rw h refl) ∙ f in let y : v ≡ n = cc in rw y (leb-true n limit h)
-      go false h = let z : TooLarge ≡ Fits v = sym (e ∙ rw h refl) ∙ f in let y : ◌≡◌ {A = ℕ} 0 1 = cc in omega arith
+      go true h = let z : Some n ≡ Some v = sym (e ∙ rw h refl) ∙ f in let y : v ≡ n = cc in rw y (leb-true n limit h)
+      go false h = let z : None ≡ Some v = sym (e ∙ rw h refl) ∙ f in let y : ◌≡◌ {A = ℕ} 0 1 = cc in omega arith

@@ -1,9 +1,8 @@
 -- What each operator says of two whole numbers, by way of their order.
 use mathlib.Core.Path.{◌≡◌, refl, sym, ap, subst}
 use mathlib.Core.Bool.{Bool, true, false}
-use Prim.Native.Nat.{◌≤◌, ◌<◌}
 use native.Mathlib.Nat.{le_antisymm, le_of_lt}
-use lib.Dec.{T, ltb, leb, ltb→lt, le→leb}
+use lib.Dec.{T, ltb→lt, le→leb}
 use lib.IntN.{ℤ, pos, negsuc}
 use lib.Signed.{lt_z, le_z, ◌<ℤ◌, ◌≤ℤ◌, lt_z_yes, le_z_yes, ≤ℤ_refl, <ℤ_irrefl, clash_ℤ}
 use borrow.Author.Tests.{ltb-false}

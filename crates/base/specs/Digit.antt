@@ -1,10 +1,8 @@
 -- 000 5.3.2, binary-digit, decimal-digit and hex-digit: what digits of any base up to 16 write, in any number.
-use Rattle.std.specs.Prelude.{ℕ, zero, suc, ◌+◌, ◌-◌, ◌*◌, Bool, true, ◌&&◌, List, ltb, leb}
+use Rattle.std.specs.Prelude.{ℕ, zero, suc, ◌+◌, ◌-◌, ◌*◌, Bool, true, ◌&&◌, List, Option, Some, None, ltb, leb}
 use Rattle.base.specs.Pick.{pick}
 use Rattle.base.specs.Part.{byte_at}
 use Rattle.base.specs.Range.{within}
-use Rattle.base.specs.declared.digit.Size.{Size}
-use Rattle.base.specs.declared.digit.Size.TheVariants.{Fits, TooLarge}
 
 -- the value of `0` to `9`, `A` to `F`, `a` to `f`; 16, a digit of no base, of any other byte
 unfoldable pub digit_of : ℕ → ℕ
@@ -21,5 +19,5 @@ value_of base v s at zero = v
 value_of base v s at (suc n) = value_of base v s at n * base + digit_of (byte_at s (at + n))
 
 -- a number up to a limit
-unfoldable pub size_under : ℕ → ℕ → Size
-size_under limit v = pick (leb v limit) (Fits v) TooLarge
+unfoldable pub size_under : ℕ → ℕ → Option ℕ
+size_under limit v = pick (leb v limit) (Some v) None

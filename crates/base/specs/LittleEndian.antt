@@ -1,8 +1,6 @@
 -- 01 "Records": least byte first; signed integers in two's complement. One definition for every width.
-use Rattle.std.specs.Prelude.{ℕ, ◌+◌, ◌*◌, ◌^◌, List, [], ◌∷◌, length, ltb, ℤ, pos, negsuc, ◌-ℤ◌}
+use Rattle.std.specs.Prelude.{ℕ, ◌+◌, ◌*◌, ◌^◌, List, [], ◌∷◌, length, ltb, ℤ, pos, ◌-ℤ◌}
 use Rattle.base.specs.Pick.{pick}
-use Rattle.base.specs.declared.integer.Whole.{Whole}
-use Rattle.base.specs.declared.integer.Whole.TheVariants.{Pos, NegSuc}
 
 -- the number in the bytes, least byte first
 unfoldable pub unsigned : List ℕ → ℕ
@@ -13,8 +11,3 @@ unsigned (b ∷ s) = b + 256 * unsigned s
 unfoldable pub twos_complement : List ℕ → ℤ
 twos_complement s =
     pick (ltb (2 * unsigned s) (256 ^ length s)) (pos (unsigned s)) (pos (unsigned s) -ℤ pos (256 ^ length s))
-
--- the whole number that the code's `Whole` stands for
-abbrev pub whole_of : Whole → ℤ
-whole_of (Pos n) = pos n
-whole_of (NegSuc n) = negsuc n

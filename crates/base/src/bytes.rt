@@ -26,13 +26,11 @@ pub fn piece(s: &[u8], start: usize, len: usize) -> &[u8]
 }
 
 // Whether `b` is from `low` to `high`.
+#[tactic(auto, unfolding(crate::specs::Range::within))]
 pub fn in_range(low: u8, high: u8, b: u8) -> bool
     ensures { result ≡ within low high b }
 {
-    if b < low {
-        return false;
-    }
-    b <= high
+    (low <= b) & (b <= high)
 }
 
 // The byte as a number, with its bound.

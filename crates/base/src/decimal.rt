@@ -2,12 +2,11 @@
 ghost use Rattle.std.specs.Prelude.{◌≡◌, true, ◌-◌, ◌≤◌, ltb, length};
 ghost use Rattle.base.specs.Digit.{digit_of, all_digits, value_of};
 
-use crate::bytes;
-
+#[tactic(auto, unfolding(crate::specs::Range::within), using(crate::proofs::DecimalDigits::is_decimal))]
 fn is_decimal(b: u8) -> bool
     ensures { result ≡ ltb (digit_of b) 10 }
 {
-    bytes::in_range(b'0', b'9', b)
+    b.is_ascii_digit()
 }
 
 // Whether the `n` bytes from `at` on are decimal digits. All of them are looked at: where no byte ends the loop early, the compiler tests several at once.
@@ -16,10 +15,8 @@ pub fn all_decimal(s: &[u8], at: usize, n: usize) -> bool
     ensures { result ≡ all_digits 10 s.now at n }
 {
     let mut all = true;
-    let mut i = 0;
-    while i < n {
+    for i in 0..n {
         all = all & is_decimal(s[at + i]);
-        i += 1;
     }
     all
 }
@@ -30,10 +27,8 @@ pub fn decimal_at(s: &[u8], at: usize, n: usize) -> u64
     ensures { result ≡ value_of 10 0 s.now at n }
 {
     let mut v: u64 = 0;
-    let mut i = 0;
-    while i < n {
-        v = v * 10 + (bytes::widen(s[at + i]) - 48);
-        i += 1;
+    for i in 0..n {
+        v = v * 10 + u64::from(s[at + i] - b'0');
     }
     v
 }

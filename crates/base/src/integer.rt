@@ -1,33 +1,24 @@
 // Whole numbers of 1 to 8 bytes, least byte first, unsigned and in two's complement.
 ghost use Rattle.std.specs.Prelude.{◌≡◌, ℕ, ◌+◌, ◌^◌, ◌≤◌, ◌<◌, length, take};
-ghost use Rattle.std.specs.Int.Signed.{lt_z};
-ghost use Rattle.base.specs.LittleEndian.{unsigned, twos_complement, whole_of};
+ghost use Rattle.base.specs.LittleEndian.{unsigned, twos_complement};
 ghost use Rattle.base.specs.Order.{order_of_whole};
 
 use crate::bytes;
 use crate::order::Order;
-
-// From -2^64 to 2^64 - 1: `Pos(n)` is n, `NegSuc(n)` is -(n + 1). No integer type of the language holds both an unsigned 64-bit value and a negative one.
-#[derive(Drop)]
-#[derive(Clone, Copy)]
-pub enum Whole {
-    Pos(u64),
-    NegSuc(u64),
-}
 
 // Eight bytes, the width of most: a sum of this form is one load.
 fn word_of(s: &[u8]) -> u64
     requires { length s.now ≡ 8 }
     ensures { (result ≡ unsigned s.now) × (result < 256 ^ 8) }
 {
-    bytes::widen(s[0])
-        + bytes::widen(s[1]) * 0x100
-        + bytes::widen(s[2]) * 0x1_0000
-        + bytes::widen(s[3]) * 0x100_0000
-        + bytes::widen(s[4]) * 0x1_0000_0000
-        + bytes::widen(s[5]) * 0x100_0000_0000
-        + bytes::widen(s[6]) * 0x1_0000_0000_0000
-        + bytes::widen(s[7]) * 0x100_0000_0000_0000
+    u64::from(s[0])
+        + u64::from(s[1]) * 0x100
+        + u64::from(s[2]) * 0x1_0000
+        + u64::from(s[3]) * 0x100_0000
+        + u64::from(s[4]) * 0x1_0000_0000
+        + u64::from(s[5]) * 0x100_0000_0000
+        + u64::from(s[6]) * 0x1_0000_0000_0000
+        + u64::from(s[7]) * 0x100_0000_0000_0000
 }
 
 // One function for every width: the bytes are taken from the last one down.
@@ -39,10 +30,8 @@ fn unsigned_of(s: &[u8]) -> u64
         return word_of(s);
     }
     let mut v: u64 = 0;
-    let mut i = s.len();
-    while 0 < i {
-        i -= 1;
-        v = v * 256 + bytes::widen(s[i]);
+    for i in (0..s.len()).rev() {
+        v = v * 256 + u64::from(s[i]);
     }
     v
 }
@@ -56,10 +45,8 @@ fn all_ones(n: usize) -> u64
         return 0xffff_ffff_ffff_ffff;
     }
     let mut v: u64 = 0;
-    let mut i = 0;
-    while i < n {
+    for i in 0..n {
         v = v * 256 + 255;
-        i += 1;
     }
     v
 }
@@ -71,41 +58,26 @@ pub fn unsigned_in(s: &[u8]) -> u64
     unsigned_of(bytes::piece(s, 0, 8))
 }
 
-// The same in two's complement.
-pub fn signed_in(s: &[u8]) -> Whole
-    ensures { whole_of result ≡ twos_complement (take 8 s.now) }
+// The same in two's complement, as a type that also holds every unsigned number of 8 bytes.
+pub fn signed_in(s: &[u8]) -> i128
+    ensures { result ≡ twos_complement (take 8 s.now) }
 {
     let body = bytes::piece(s, 0, 8);
     let u = unsigned_of(body);
     let ones = all_ones(body.len());
     if u <= ones / 2 {
-        return Whole::Pos(u);
+        return i128::from(u);
     }
-    Whole::NegSuc(ones - u)
+    i128::from(u) - i128::from(ones) - 1
 }
 
-pub fn is_less(a: Whole, b: Whole) -> bool
-    ensures { result ≡ lt_z (whole_of a) (whole_of b) }
+pub fn order_of_whole(a: i128, b: i128) -> Order
+    ensures { result ≡ order_of_whole a b }
 {
-    match a {
-        Whole::Pos(m) => match b {
-            Whole::Pos(n) => m < n,
-            Whole::NegSuc(_) => false,
-        },
-        Whole::NegSuc(m) => match b {
-            Whole::Pos(_) => true,
-            Whole::NegSuc(n) => n < m,
-        },
-    }
-}
-
-pub fn order_of_whole(a: Whole, b: Whole) -> Order
-    ensures { result ≡ order_of_whole (whole_of a) (whole_of b) }
-{
-    if is_less(a, b) {
+    if a < b {
         return Order::Before;
     }
-    if is_less(b, a) {
+    if b < a {
         return Order::After;
     }
     Order::Same

@@ -1,4 +1,5 @@
 -- One law for each exit of `src/size.rt`.
+use Rattle.std.specs.Prelude.{Err, None, Ok, Option, Result, Some}
 use Prim.Native.Nat.{ℕ, zero, suc, ◌+◌, ◌*◌, ◌-◌, ◌≤◌, ◌<◌}
 use mathlib.Core.Path.{◌≡◌, refl, sym, ap, ◌∙◌}
 use mathlib.Core.List.{List}
@@ -8,25 +9,20 @@ use native.Mathlib.Nat.{mul-le-mul}
 use lib.ListN.{length}
 use Rattle.token.specs.declared.Token.{Token}
 use Rattle.terminal.specs.declared.operator.BoolOp.TheVariants.{And, Or}
-use Rattle.terminal.specs.declared.operator.Joining.{Joining}
-use Rattle.terminal.specs.declared.operator.Joining.TheVariants.{With, NoBoolOp}
 use Rattle.syntax.specs.declared.comparison.Comparison.{Comparison}
 use Rattle.syntax.specs.declared.fault.Fault.{Fault}
 use Rattle.syntax.specs.Scan.{Scan, scan}
 use Rattle.query_text.specs.declared.join.Join.{Join}
-use Rattle.query_text.specs.declared.query.NextResult.{NextResult}
-use Rattle.query_text.specs.declared.query.NextResult.TheVariants.{HasNext, NoNext}
 use Rattle.query_text.specs.declared.query.QueryStart.{QueryStart}
 use Rattle.query_text.specs.Query as listed
 use Rattle.query_text.specs.Query.{only, more, Query, bad, good, next_comparison, last_join, query_from, query_start, query}
 use Rattle.query_text.specs.Tree.{Chain, one, then, front}
 use Rattle.query_text.proofs.Laws.{from_out, from_bad, from_last, from_more}
-use Rattle.conjunction.specs.declared.group.NextTerm.{NextTerm}
-use Rattle.conjunction.specs.declared.group.NextTerm.TheVariants.{Term, NoTerm}
 use Rattle.conjunction.specs.Groups.{group_at, text_of, follow, terms_within, terms_from, terms_of}
 use Rattle.conjunction.specs.Terms.{Behind}
 use Rattle.conjunction.specs.Conjunction.{count, size, comparisons, comparisons_of}
 use Rattle.conjunction.proofs.Reading.{splits}
+use Rattle.terminal.specs.declared.operator.BoolOp.{BoolOp}
 
 -- ---- terms
 count_front : {A : Type 0} (a : A) (r : Chain (Chain A)) → count (front (then a) r) ≡ count r
@@ -34,11 +30,11 @@ unfolding front count
 count_front a (one b) = refl
 count_front a (then b r) = refl
 
-followed_few : {A : Type 0} (n : ℕ) (a : A) (j : Joining) (r : Chain (Chain A)) → count r ≤ suc n → count (follow a j r) ≤ suc (suc n)
+followed_few : {A : Type 0} (n : ℕ) (a : A) (j : Option BoolOp) (r : Chain (Chain A)) → count r ≤ suc n → count (follow a j r) ≤ suc (suc n)
 unfolding follow count
-followed_few n a (With And) r h = rw (count_front a r) (omega (arith, h))
-followed_few n a (With Or) r h = omega (arith, h)
-followed_few n a NoBoolOp r h = omega arith
+followed_few n a (Some And) r h = rw (count_front a r) (omega (arith, h))
+followed_few n a (Some Or) r h = omega (arith, h)
+followed_few n a None r h = omega arith
 
 terms_few : (n : ℕ) (q : List ℕ) (t : Token) → count (terms_within n q t) ≤ suc n
 unfolding terms_within count
@@ -54,12 +50,12 @@ pub terms_begin : (q : List ℕ) {t : Token} → t ≡ (query_start (scan q)).to
 terms_begin q e = let f = ap (λ (x : Token). count (terms_from q x)) e in omega (arith, f)
 
 module _ (q : List ℕ) (t : Token) (n : ℕ) (i : n + count (terms_from q t) ≡ suc (count (terms_of q))) where
-  module _ {r : NextTerm} (h : Behind q t r) where
-    pub terms_all : r ≡ NoTerm → n ≡ count (terms_of q)
+  module _ {r : Option Token} (h : Behind q t r) where
+    pub terms_all : r ≡ None → n ≡ count (terms_of q)
     unfolding count
     terms_all e = let f = ap count (splits h e) in omega (arith, i, f)
 
-    module _ (u : Token) (e : r ≡ Term u) where
+    module _ (u : Token) (e : r ≡ Some u) where
       pub terms_more : (n + 1) + count (terms_from q u) ≡ suc (count (terms_of q))
       unfolding count
       terms_more = let f = ap count (splits h e) in omega (arith, i, f)
@@ -87,11 +83,11 @@ module _ (s : Scan) (grouped : Bool) (t : Token) (n : ℕ) {whole : ℕ} (i : wh
   pub counted_out : 64 ≤ n → 0 ≡ whole
   counted_out h = sym (i ∙ ap (further n) (from_out s grouped t (64 - n) _ (omega arith) refl))
 
-  module _ {l : NextResult} (e : l ≡ next_comparison s grouped t) (h : n < 64) where
-    pub counted_bad : (f : Fault) → l ≡ NoNext f → 0 ≡ whole
+  module _ {l : Result (Comparison × Join × Token) Fault} (e : l ≡ next_comparison s grouped t) (h : n < 64) where
+    pub counted_bad : (f : Fault) → l ≡ Err f → 0 ≡ whole
     counted_bad f g = sym (i ∙ ap (further n) (from_bad s grouped t l e (64 - n) f (omega arith) g))
 
-    module _ {c : Comparison} {j : Join} {u : Token} (g : l ≡ HasNext c j u) {b : Bool} (r : b ≡ last_join j) where
+    module _ {c : Comparison} {j : Join} {u : Token} (g : l ≡ Ok (c, j, u)) {b : Bool} (r : b ≡ last_join j) where
       pub counted_last : b ≡ true → n + 1 ≡ whole
       unfolding size
       counted_last k = sym (i ∙ ap (further n) (from_last s grouped t l e c j u g b r (64 - n) (omega arith) k))
@@ -120,10 +116,10 @@ comparisons_few (suc n) s grouped t = go (next_comparison s grouped t) (λ u. co
     ends c j true r h = omega arith
     ends c j false r h = follows c j r h
 
-    go : (l : NextResult) → ((u : Token) → comparisons (query_from n s grouped u) ≤ n)
-        → comparisons (elim l [ NoNext f ↦ bad f | HasNext c j u ↦ elim (last_join j) [ true ↦ good (only c) | false ↦ listed.before c j (query_from n s grouped u) ] ]) ≤ suc n
-    go (NoNext f) ih = omega arith
-    go (HasNext c j u) ih = ends c j (last_join j) (query_from n s grouped u) (ih u)
+    go : (l : Result (Comparison × Join × Token) Fault) → ((u : Token) → comparisons (query_from n s grouped u) ≤ n)
+        → comparisons (elim l [ Err f ↦ bad f | Ok (c, j, u) ↦ elim (last_join j) [ true ↦ good (only c) | false ↦ listed.before c j (query_from n s grouped u) ] ]) ≤ suc n
+    go (Err f) ih = omega arith
+    go (Ok (c, j, u)) ih = ends c j (last_join j) (query_from n s grouped u) (ih u)
 
 pub comparisons_bounded : (q : List ℕ) → comparisons (query q) ≤ 64
 unfolding query

@@ -1,4 +1,5 @@
 -- The tokens of a group and the groups of a query, one after another: each moves on, so that the definitions' steps are enough.
+use Rattle.std.specs.Prelude.{None, Option, Some}
 use Prim.Native.Nat.{ℕ, zero, suc, ◌-◌, ◌≤◌, ◌<◌}
 use mathlib.Core.Path.{◌≡◌, refl, sym, ap, ◌∙◌}
 use mathlib.Core.List.{List}
@@ -9,8 +10,6 @@ use Rattle.token.specs.declared.Token.{Token}
 use Rattle.token.specs.Token.{token_after}
 use Rattle.token.proofs.Bounds.{after_from, after_moves}
 use Rattle.terminal.specs.declared.operator.BoolOp.{BoolOp}
-use Rattle.terminal.specs.declared.operator.Joining.{Joining}
-use Rattle.terminal.specs.declared.operator.Joining.TheVariants.{With, NoBoolOp}
 use Rattle.terminal.specs.Terminal.{inside, joining}
 use Rattle.terminal.proofs.Inside.{inside_token, joins_inside}
 use Rattle.query_text.specs.Tree.{one}
@@ -68,7 +67,7 @@ module _ (q : List ℕ) where
       go false e h = rw (within_stop (suc n) t e) (omega arith)
 
   -- a group with another behind it ends before that
-  pub group_moves : (t : Token) (o : BoolOp) → (group_at q t).joining ≡ With o → left (group_at q t).next < left t
+  pub group_moves : (t : Token) (o : BoolOp) → (group_at q t).joining ≡ Some o → left (group_at q t).next < left t
   unfolding group_at last
   group_moves t o e =
       let c = last_from (length q) t in
@@ -79,7 +78,7 @@ module _ (q : List ℕ) where
       omega (arith, c, d, m.0, m.1, f, g)
 
   -- ---- as many groups as bytes are as good as any number more
-  ends_alone : (n : ℕ) (t : Token) → (group_at q t).joining ≡ NoBoolOp → terms_within n q t ≡ one (one (text_of q (group_at q t)))
+  ends_alone : (n : ℕ) (t : Token) → (group_at q t).joining ≡ None → terms_within n q t ≡ one (one (text_of q (group_at q t)))
   unfolding terms_within follow
   ends_alone zero t e = refl
   ends_alone (suc n) t e = rw e refl
@@ -88,16 +87,16 @@ module _ (q : List ℕ) where
   unfolding terms_within
   groups_enough zero n t h k = go (group_at q t).joining refl
     where
-      go : (j : Joining) → (group_at q t).joining ≡ j → terms_within zero q t ≡ terms_within n q t
-      go NoBoolOp e = ends_alone zero t e ∙ sym (ends_alone n t e)
-      go (With o) e = let l = group_moves t o e in absurd (omega (arith, l))
+      go : (j : Option BoolOp) → (group_at q t).joining ≡ j → terms_within zero q t ≡ terms_within n q t
+      go None e = ends_alone zero t e ∙ sym (ends_alone n t e)
+      go (Some o) e = let l = group_moves t o e in absurd (omega (arith, l))
   groups_enough (suc m) n t h k = go (group_at q t).joining refl n k (groups_enough m)
     where
-      go : (j : Joining) → (group_at q t).joining ≡ j → (n : ℕ) → left t ≤ n
+      go : (j : Option BoolOp) → (group_at q t).joining ≡ j → (n : ℕ) → left t ≤ n
           → ((n : ℕ) (u : Token) → left u ≤ m → left u ≤ n → terms_within m q u ≡ terms_within n q u) → terms_within (suc m) q t ≡ terms_within n q t
-      go NoBoolOp e n k ih = ends_alone (suc m) t e ∙ sym (ends_alone n t e)
-      go (With o) e zero k ih = let l = group_moves t o e in absurd (omega (arith, l))
-      go (With o) e (suc n) k ih =
+      go None e n k ih = ends_alone (suc m) t e ∙ sym (ends_alone n t e)
+      go (Some o) e zero k ih = let l = group_moves t o e in absurd (omega (arith, l))
+      go (Some o) e (suc n) k ih =
           let l = group_moves t o e in
           ap (follow (text_of q (group_at q t)) (group_at q t).joining) (ih n (group_at q t).next (omega (arith, l)) (omega (arith, l)))
 

@@ -1,4 +1,5 @@
 -- One law for each exit of `src/write.rt`.
+use Rattle.std.specs.Prelude.{None, Option, Some}
 use Prim.Native.Nat.{ℕ, ◌+◌, min, max}
 use mathlib.Core.Path.{◌≡◌, refl, sym, ap, ◌∙◌, subst}
 use mathlib.Core.List.{List, ◌++◌, append_assoc}
@@ -10,13 +11,10 @@ use Rattle.text_writer.proofs.Written.{written_then, written_length}
 use Rattle.token.specs.declared.Token.{Token}
 use Rattle.terminal.specs.declared.operator.BoolOp.{BoolOp}
 use Rattle.terminal.specs.declared.operator.BoolOp.TheVariants.{And, Or}
-use Rattle.terminal.specs.declared.operator.Joining.TheVariants.{With, NoBoolOp}
 use Rattle.syntax.specs.Scan.{scan}
 use Rattle.query_text.specs.Query.{query_start}
 use Rattle.query_text.specs.Tree.{Chain, one, then}
 use Rattle.conjunction.specs.declared.group.Group.{Group}
-use Rattle.conjunction.specs.declared.group.NextTerm.{NextTerm}
-use Rattle.conjunction.specs.declared.group.NextTerm.TheVariants.{Term, NoTerm}
 use Rattle.conjunction.specs.Groups.{group_at, text_of, terms_from, terms_of}
 use Rattle.conjunction.specs.Terms.{term_at, Behind}
 use Rattle.conjunction.specs.Conjunction.{chained, each, products, bracketed, term_text, text, conjunction}
@@ -67,18 +65,17 @@ group_written {b} {c} {d} {e} {at} {p} {r} {s} g w f v u = written_then w (writt
 -- ---- a term
 module _ (q : List ℕ) (first t : Token) (g : Group) {b c d : List ℕ} {at p r : ℕ} (i : Writing b at (term_text (term_at q first)) c p (term_text (term_at q t)))
     (e : g ≡ group_at q t) (w : Written c p (bracketed (text_of q g)) r d) where
-  pub term_done : g.joining ≡ NoBoolOp → Written b at (term_text (term_at q first)) r d
+  pub term_done : g.joining ≡ None → Written b at (term_text (term_at q first)) r d
   unfolding term_text
   term_done f = i.ends (subst (λ (x : Chain (List ℕ)). Written c p (term_text x) r d) (sym (term_last q t e f)) w)
 
-  module _ {o : BoolOp} (f : g.joining ≡ With o) where
-    pub term_before_or : o ≡ Or → Written b at (term_text (term_at q first)) r d
-    unfolding term_text
-    term_before_or k = i.ends (subst (λ (x : Chain (List ℕ)). Written c p (term_text x) r d) (sym (term_or q t e (f ∙ ap With k))) w)
+  pub term_before_or : {o : BoolOp} → g.joining ≡ Some o → o ≡ Or → Written b at (term_text (term_at q first)) r d
+  unfolding term_text
+  term_before_or f k = i.ends (subst (λ (x : Chain (List ℕ)). Written c p (term_text x) r d) (sym (term_or q t e (f ∙ ap Some k))) w)
 
-    pub term_goes_on : o ≡ And → {h : List ℕ} {s : ℕ} → Written d r (bytes " AND ") s h → Writing b at (term_text (term_at q first)) h s (term_text (term_at q g.next))
-    unfolding term_text
-    term_goes_on k v = joined_on (subst (λ (x : Chain (List ℕ)). Writing b at (term_text (term_at q first)) c p (term_text x)) (term_and q t e (f ∙ ap With k)) i) w v
+  pub term_goes_on : {o : BoolOp} → g.joining ≡ Some o → o ≡ And → {h : List ℕ} {s : ℕ} → Written d r (bytes " AND ") s h → Writing b at (term_text (term_at q first)) h s (term_text (term_at q g.next))
+  unfolding term_text
+  term_goes_on f k v = joined_on (subst (λ (x : Chain (List ℕ)). Writing b at (term_text (term_at q first)) c p (term_text x)) (term_and q t e (f ∙ ap Some k)) i) w v
 
 -- ---- a term beside another
 pub both_written : (x y : Chain (List ℕ)) {b c d e : List ℕ} {at p r s : ℕ} → Written b at (term_text x) p c → Written c p (bytes " AND ") r d → Written d r (term_text y) s e
@@ -91,12 +88,12 @@ pub beside_begins : (a : Chain (List ℕ)) (p : List ℕ) {t : Token} → t ≡ 
 beside_begins a p e {b} {at} = subst (λ (x : Token). Writing b at (text (each (chained a) (terms_of p))) b at (text (each (chained a) (terms_from p x)))) (sym e) writing_begins
 
 module _ (a : Chain (List ℕ)) (p : List ℕ) (t : Token) {b c d whole : List ℕ} {at m r : ℕ} (i : Writing b at whole c m (text (each (chained a) (terms_from p t)))) (w : Written c m (term_text (chained a (term_at p t))) r d) where
-  module _ {n : NextTerm} (h : Behind p t n) where
-    pub beside_done : n ≡ NoTerm → Written b at whole r d
+  module _ {n : Option Token} (h : Behind p t n) where
+    pub beside_done : n ≡ None → Written b at whole r d
     unfolding text each
     beside_done e = i.ends (subst (λ (x : Chain (Chain (List ℕ))). Written c m (text (each (chained a) x)) r d) (sym (splits h e)) w)
 
-    pub beside_goes_on : (u : Token) → n ≡ Term u → {f : List ℕ} {s : ℕ} → Written d r (bytes " OR ") s f → Writing b at whole f s (text (each (chained a) (terms_from p u)))
+    pub beside_goes_on : (u : Token) → n ≡ Some u → {f : List ℕ} {s : ℕ} → Written d r (bytes " OR ") s f → Writing b at whole f s (text (each (chained a) (terms_from p u)))
     unfolding text each
     beside_goes_on u e v = joined_on (subst (λ (x : Chain (Chain (List ℕ))). Writing b at whole c m (text (each (chained a) x))) (splits h e) i) w v
 
@@ -106,12 +103,12 @@ unfolding conjunction
 products_begin q p e {b} {at} = subst (λ (x : Token). Writing b at (conjunction q p) b at (text (products (terms_from q x) (terms_of p)))) (sym e) writing_begins
 
 module _ (q : List ℕ) (s : Chain (Chain (List ℕ))) (t : Token) {b c d whole : List ℕ} {at m r : ℕ} (i : Writing b at whole c m (text (products (terms_from q t) s))) (w : Written c m (text (each (chained (term_at q t)) s)) r d) where
-  module _ {n : NextTerm} (h : Behind q t n) where
-    pub products_done : n ≡ NoTerm → Written b at whole r d
+  module _ {n : Option Token} (h : Behind q t n) where
+    pub products_done : n ≡ None → Written b at whole r d
     unfolding products
     products_done e = i.ends (subst (λ (x : Chain (Chain (List ℕ))). Written c m (text (products x s)) r d) (sym (splits h e)) w)
 
-    pub products_go_on : (u : Token) → n ≡ Term u → {f : List ℕ} {k : ℕ} → Written d r (bytes " OR ") k f → Writing b at whole f k (text (products (terms_from q u) s))
+    pub products_go_on : (u : Token) → n ≡ Some u → {f : List ℕ} {k : ℕ} → Written d r (bytes " OR ") k f → Writing b at whole f k (text (products (terms_from q u) s))
     unfolding products
     products_go_on u e v =
         joined_on

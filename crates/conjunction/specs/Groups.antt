@@ -1,17 +1,16 @@
 -- 02 Q-7: "Take each query as ORed terms of ANDed groups; a query without brackets is one group." A group's text starts with its first token and ends with its last, so
 -- that what stands between the brackets, or the whole unbracketed query, has lost its outer whitespace (`group_trimmed` of conjunction_laws/proofs/Trimmed).
-use Rattle.std.specs.Prelude.{ℕ, zero, suc, List, true, false, length}
+use Rattle.std.specs.Prelude.{ℕ, zero, suc, List, true, false, length, None, Option, Some}
 use Rattle.token.specs.declared.Token.{Token}
 use Rattle.token.specs.Token.{token_after}
 use Rattle.terminal.specs.declared.operator.BoolOp.TheVariants.{And, Or}
-use Rattle.terminal.specs.declared.operator.Joining.{Joining}
-use Rattle.terminal.specs.declared.operator.Joining.TheVariants.{With, NoBoolOp}
 use Rattle.terminal.specs.Terminal.{inside, joining}
 use Rattle.syntax.specs.Scan.{scan}
 use Rattle.query_text.specs.Query.{query_start}
 use Rattle.query_text.specs.Tree.{Chain, one, then, front}
 use Rattle.operand.specs.Named.{spanned}
 use Rattle.conjunction.specs.declared.group.Group.{Group}
+use Rattle.terminal.specs.declared.operator.BoolOp.{BoolOp}
 
 -- the last token of a group from one of its tokens on, by at most so many steps
 unfoldable pub last_within : (steps : ℕ) (query : List ℕ) → Token → Token
@@ -39,10 +38,10 @@ abbrev pub text_of : (query : List ℕ) → Group → List ℕ
 text_of q g = spanned q g.text
 
 -- a group before those behind it, as they are joined
-unfoldable pub follow : {A : Type 0} → A → Joining → Chain (Chain A) → Chain (Chain A)
-follow a (With And) r = front (then a) r
-follow a (With Or) r = then (one a) r
-follow a NoBoolOp r = one (one a)
+unfoldable pub follow : {A : Type 0} → A → Option BoolOp → Chain (Chain A) → Chain (Chain A)
+follow a (Some And) r = front (then a) r
+follow a (Some Or) r = then (one a) r
+follow a None r = one (one a)
 
 -- the terms from a group's first token on, by at most so many groups more
 unfoldable pub terms_within : (groups : ℕ) (query : List ℕ) → Token → Chain (Chain (List ℕ))

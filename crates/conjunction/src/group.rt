@@ -8,46 +8,24 @@ ghost use Rattle.conjunction.specs.Terms.{Behind};
 
 use query_text::query::open_query;
 use syntax::path::Span;
-use terminal::operator::{BoolOp, Joining, joining_of};
+use terminal::operator::{BoolOp, joining_of};
 use token::{Punctuation, Token, TokenKind, token_after};
 
 // Its text without its brackets, what stands behind them, and the first token of the group behind that.
 #[derive(Drop)]
 pub struct Group {
     pub text: Span,
-    pub joining: Joining,
+    pub joining: Option<BoolOp>,
     pub next: Token,
-}
-
-// The first token of the term behind another, if there is one.
-#[derive(Drop)]
-pub enum NextTerm {
-    Term(Token),
-    NoTerm,
 }
 
 fn is_inside(k: TokenKind) -> bool
     ensures { result ≡ inside k }
 {
-    match k {
-        TokenKind::End => false,
-        TokenKind::NoToken => false,
-        TokenKind::Name => true,
-        TokenKind::Word(_) => true,
-        TokenKind::Number(_) => true,
-        TokenKind::Text => true,
-        TokenKind::Compare(_) => true,
-        TokenKind::Symbol(mark) => match mark {
-            Punctuation::Open => true,
-            Punctuation::Close => false,
-            Punctuation::OpenIndex => true,
-            Punctuation::CloseIndex => true,
-            Punctuation::OpenList => true,
-            Punctuation::CloseList => true,
-            Punctuation::Comma => true,
-            Punctuation::Dot => true,
-        },
-    }
+    !matches!(
+        k,
+        TokenKind::End | TokenKind::NoToken | TokenKind::Symbol(Punctuation::Close)
+    )
 }
 
 fn last_of(q: &[u8], first: Token) -> Token
@@ -56,8 +34,7 @@ fn last_of(q: &[u8], first: Token) -> Token
     let mut token = first;
     loop {
         let next = token_after(q, token);
-        let kind = next.kind;
-        if !is_inside(kind) {
+        if !is_inside(next.kind) {
             return token;
         }
         token = next;
@@ -85,12 +62,11 @@ pub(crate) fn group_at(q: &[u8], first: Token) -> Group
 pub(crate) fn first_token(q: &[u8]) -> Token
     ensures { result ≡ (query_start (scan q.now)).token }
 {
-    let start = open_query(q);
-    start.token
+    open_query(q).token
 }
 
 // The term behind the one that starts with a token.
-pub(crate) fn next_term(q: &[u8], first: Token) -> NextTerm
+pub(crate) fn next_term(q: &[u8], first: Token) -> Option<Token>
     ensures { Behind q.now first result }
 {
     let mut token = first;
@@ -99,9 +75,9 @@ pub(crate) fn next_term(q: &[u8], first: Token) -> NextTerm
         let joining = group.joining;
         let next = group.next;
         match joining {
-            Joining::NoBoolOp => return NextTerm::NoTerm,
-            Joining::With(op) => match op {
-                BoolOp::Or => return NextTerm::Term(next),
+            None => return None,
+            Some(op) => match op {
+                BoolOp::Or => return Some(next),
                 BoolOp::And => token = next,
             },
         }

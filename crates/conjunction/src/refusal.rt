@@ -19,12 +19,6 @@ pub struct ConjoinRefusal {
     pub place: usize,
 }
 
-#[derive(Drop)]
-pub enum Conjoined {
-    Length(usize),
-    Refused(ConjoinRefusal),
-}
-
 // The number of a cause, 02's or 01's.
 pub fn number_of(cause: ConjoinCause) -> usize
     ensures { result ≡ number_of cause }

@@ -5,9 +5,9 @@ ghost use Rattle.query_text.specs.Query.{query_from, query};
 ghost use Rattle.conjunction.specs.Groups.{terms_of};
 ghost use Rattle.conjunction.specs.Conjunction.{count, comparisons, comparisons_of};
 
-use crate::group::{NextTerm, first_token, next_term};
+use crate::group::{first_token, next_term};
 use query_text::join::is_last;
-use query_text::query::{NextResult, open_query, read_next};
+use query_text::query::{open_query, read_next};
 use token::Token;
 
 fn count_terms(q: &[u8]) -> usize
@@ -16,15 +16,11 @@ fn count_terms(q: &[u8]) -> usize
 {
     let mut token = first_token(q);
     let mut terms: usize = 1;
-    loop {
-        match next_term(q, token) {
-            NextTerm::NoTerm => return terms,
-            NextTerm::Term(next) => {
-                terms += 1;
-                token = next;
-            }
-        }
+    while let Some(next) = next_term(q, token) {
+        terms += 1;
+        token = next;
     }
+    terms
 }
 
 // The comparisons from a token on; none where the grammar or its limit refuses them.
@@ -32,18 +28,14 @@ fn count_from(q: &[u8], grouped: bool, first: Token) -> usize
     ensures { result ≡ comparisons (query_from 64 (scan q.now) grouped first) }
 {
     let mut token = first;
-    let mut read: usize = 0;
-    while read < 64 {
-        match read_next(q, grouped, token) {
-            NextResult::NoNext(_) => return 0,
-            NextResult::HasNext(_, join, next) => {
-                read += 1;
-                if is_last(join) {
-                    return read;
-                }
-                token = next;
-            }
+    for read in 0..64 {
+        let Ok((_, join, next)) = read_next(q, grouped, token) else {
+            return 0;
+        };
+        if is_last(join) {
+            return read + 1;
         }
+        token = next;
     }
     0
 }
@@ -52,8 +44,7 @@ fn count_comparisons(q: &[u8]) -> usize
     ensures { result ≡ comparisons (query q.now) }
 {
     let start = open_query(q);
-    let token = start.token;
-    count_from(q, start.grouped, token)
+    count_from(q, start.grouped, start.token)
 }
 
 pub(crate) fn comparisons_of<'a>(first: &'a [u8], second: &'a [u8]) -> usize

@@ -4,9 +4,9 @@ ghost use Rattle.conjunction.specs.Groups.{text_of, terms_of};
 ghost use Rattle.conjunction.specs.Terms.{term_at};
 ghost use Rattle.conjunction.specs.Conjunction.{chained, each, bracketed, term_text, text, conjunction};
 
-use crate::group::{Group, NextTerm, first_token, group_at, next_term};
+use crate::group::{Group, first_token, group_at, next_term};
 use operand::name::spanned;
-use terminal::operator::{BoolOp, Joining};
+use terminal::operator::BoolOp;
 use text_writer::buffer::{write_byte, write_text};
 use token::Token;
 
@@ -31,8 +31,8 @@ fn write_term(out: &mut [u8], at: usize, q: &[u8], first: Token) -> usize
         let next = group.next;
         let behind = write_group(out, place, q, group);
         match joining {
-            Joining::NoBoolOp => return behind,
-            Joining::With(op) => match op {
+            None => return behind,
+            Some(op) => match op {
                 BoolOp::Or => return behind,
                 BoolOp::And => {
                     place = write_text(out, behind, b" AND ");
@@ -60,13 +60,11 @@ fn write_beside<'a>(out: &mut [u8], at: usize, q: &'a [u8], a: Token, p: &'a [u8
     let mut place = at;
     loop {
         let behind = write_both(out, place, q, a, p, b);
-        match next_term(p, b) {
-            NextTerm::NoTerm => return behind,
-            NextTerm::Term(next) => {
-                place = write_text(out, behind, b" OR ");
-                b = next;
-            }
-        }
+        let Some(next) = next_term(p, b) else {
+            return behind;
+        };
+        place = write_text(out, behind, b" OR ");
+        b = next;
     }
 }
 
@@ -78,12 +76,10 @@ pub(crate) fn write_conjunction<'a>(out: &mut [u8], q: &'a [u8], p: &'a [u8]) ->
     let mut place = 0;
     loop {
         let behind = write_beside(out, place, q, a, p);
-        match next_term(q, a) {
-            NextTerm::NoTerm => return behind,
-            NextTerm::Term(next) => {
-                place = write_text(out, behind, b" OR ");
-                a = next;
-            }
-        }
+        let Some(next) = next_term(q, a) else {
+            return behind;
+        };
+        place = write_text(out, behind, b" OR ");
+        a = next;
     }
 }

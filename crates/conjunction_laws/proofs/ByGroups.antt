@@ -1,4 +1,5 @@
 -- What the comparisons of a text come to is what its groups come to, each as a query of its own: how many they are, whether the check passes them, and where they hold.
+use Rattle.std.specs.Prelude.{Some}
 use Prim.Native.Nat.{ℕ}
 use mathlib.Core.Path.{◌≡◌, refl, sym, ap, ◌∙◌}
 use mathlib.Core.List.{List, []}
@@ -7,7 +8,6 @@ use native.Mathlib.Omega.{arith}
 use Rattle.token.specs.declared.Token.{Token}
 use Rattle.terminal.specs.declared.operator.BoolOp.{BoolOp}
 use Rattle.terminal.specs.declared.operator.BoolOp.TheVariants.{And, Or}
-use Rattle.terminal.specs.declared.operator.Joining.TheVariants.{With}
 use Rattle.syntax.specs.declared.comparison.Comparison.{Comparison}
 use Rattle.syntax.specs.Scan.{Scan}
 use Rattle.query_text.specs.declared.join.Join.{Join}
@@ -38,7 +38,7 @@ segment_grouped (goes e f h) = more_comparisons (segment_grouped h)
 
 unfoldable group_of : {l : Comparisons} → Grouped l → Group
 group_of (one_comparison {c}) = one (one c)
-group_of (more_comparisons {c} {o} h) = follow c (With o) (group_of h)
+group_of (more_comparisons {c} {o} h) = follow c (Some o) (group_of h)
 
 tree_one : {l : Comparisons} (h : Grouped l) → tree l ≡ one (one (group_of h))
 unfolding tree group_of follow front
@@ -46,13 +46,13 @@ tree_one one_comparison = refl
 tree_one (more_comparisons {o = And} h) = rw (tree_one h) refl
 tree_one (more_comparisons {o = Or} h) = rw (tree_one h) refl
 
-into_first : (f : Group → Group) (G : Group) (o : BoolOp) (t : Tree) → front (front f) (follow G (With o) t) ≡ follow (f G) (With o) t
+into_first : (f : Group → Group) (G : Group) (o : BoolOp) (t : Tree) → front (front f) (follow G (Some o) t) ≡ follow (f G) (Some o) t
 unfolding follow front
 into_first f G And (one a) = refl
 into_first f G And (then a r) = refl
 into_first f G Or t = refl
 
-tree_follow : {l : Comparisons} (h : Grouped l) (o : BoolOp) (r : Comparisons) → tree (chain_to l (Outer o) r) ≡ follow (group_of h) (With o) (tree r)
+tree_follow : {l : Comparisons} (h : Grouped l) (o : BoolOp) (r : Comparisons) → tree (chain_to l (Outer o) r) ≡ follow (group_of h) (Some o) (tree r)
 unfolding tree group_of chain_to follow
 tree_follow one_comparison And r = refl
 tree_follow one_comparison Or r = refl
@@ -194,7 +194,7 @@ module _ {g q : List ℕ} {l : Comparisons} (C : Copies g q l) where
         valued = λ table instance. rw (tree_one C.grouped) (ap (λ (b : Bool). one (one b)) (group_truth table instance));
       }
 
-  pub more_groups : (o : BoolOp) {r : Chain (Chain (List ℕ))} {L : Comparisons} → ByGroups q r L → ByGroups q (follow g (With o) r) (chain_to l (Outer o) L)
+  pub more_groups : (o : BoolOp) {r : Chain (Chain (List ℕ))} {L : Comparisons} → ByGroups q r L → ByGroups q (follow g (Some o) r) (chain_to l (Outer o) L)
   more_groups o {r} {L} b =
       record {
         sizes = chain_size l (Outer o) L ∙ rw (group_size, b.sizes) (sym (total_follow (λ g. comparisons (query g)) g o r));

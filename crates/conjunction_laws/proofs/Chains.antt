@@ -1,4 +1,5 @@
 -- Terms of groups: an induction that goes group by group, and what the product of two queries' terms comes to.
+use Rattle.std.specs.Prelude.{Some}
 use Prim.Native.Nat.{ℕ, ◌+◌, ◌*◌}
 use mathlib.Core.Path.{◌≡◌, refl, sym, ◌∙◌}
 use mathlib.Core.Bool.{Bool, true, false, ◌&&◌, ◌||◌}
@@ -6,13 +7,12 @@ use native.Mathlib.Omega.{arith}
 use native.Mathlib.Nat.{one-mul, suc-mul, mul-add}
 use Rattle.terminal.specs.declared.operator.BoolOp.{BoolOp}
 use Rattle.terminal.specs.declared.operator.BoolOp.TheVariants.{And, Or}
-use Rattle.terminal.specs.declared.operator.Joining.TheVariants.{With}
 use Rattle.query_text.specs.Tree.{Chain, one, then, front, every, some}
 use Rattle.conjunction.specs.Groups.{follow}
 use Rattle.conjunction.specs.Conjunction.{chained, each, products, count}
 
 -- ---- terms are one group, or a group joined to those behind it
-module _ {A : Type 0} (P : Chain (Chain A) → Type 0) (last : (a : A) → P (one (one a))) (joined : (a : A) (o : BoolOp) (r : Chain (Chain A)) → P r → P (follow a (With o) r)) where
+module _ {A : Type 0} (P : Chain (Chain A) → Type 0) (last : (a : A) → P (one (one a))) (joined : (a : A) (o : BoolOp) (r : Chain (Chain A)) → P r → P (follow a (Some o) r)) where
   in_last : (t : Chain A) → P (one t)
   unfolding follow front
   in_last (one a) = last a
@@ -29,7 +29,7 @@ module _ {A : Type 0} (P : Chain (Chain A) → Type 0) (last : (a : A) → P (on
 
 -- ---- something of each
 module _ {A B : Type 0} (f : A → B) where
-  pub each_follow : (a : A) (o : BoolOp) (r : Chain (Chain A)) → each (each f) (follow a (With o) r) ≡ follow (f a) (With o) (each (each f) r)
+  pub each_follow : (a : A) (o : BoolOp) (r : Chain (Chain A)) → each (each f) (follow a (Some o) r) ≡ follow (f a) (Some o) (each (each f) r)
   unfolding each follow front
   each_follow a And (one t) = refl
   each_follow a And (then t r) = refl
@@ -52,13 +52,13 @@ Every P (one a) = P a
 Every P (then a r) = P a × Every P r
 
 module _ {A : Type 0} (P : A → Type 0) where
-  pub follow_every : (a : A) (o : BoolOp) (r : Chain (Chain A)) → P a → Every (Every P) r → Every (Every P) (follow a (With o) r)
+  pub follow_every : (a : A) (o : BoolOp) (r : Chain (Chain A)) → P a → Every (Every P) r → Every (Every P) (follow a (Some o) r)
   unfolding Every follow front
   follow_every a And (one t) h k = (h, k)
   follow_every a And (then t r) h k = ((h, k.0), k.1)
   follow_every a Or r h k = (h, k)
 
-  pub every_follow : (a : A) (o : BoolOp) (r : Chain (Chain A)) → Every (Every P) (follow a (With o) r) → P a × Every (Every P) r
+  pub every_follow : (a : A) (o : BoolOp) (r : Chain (Chain A)) → Every (Every P) (follow a (Some o) r) → P a × Every (Every P) r
   unfolding Every follow front
   every_follow a And (one t) h = (h.0, h.1)
   every_follow a And (then t r) h = (h.0.0, (h.0.1, h.1))
@@ -134,7 +134,7 @@ total_chained w (one a) y = refl
 total_chained w (then a x) y = rw (total_chained w x y) (omega arith)
 
 module _ {A : Type 0} (w : A → ℕ) where
-  pub total_follow : (a : A) (o : BoolOp) (r : Chain (Chain A)) → total (total w) (follow a (With o) r) ≡ w a + total (total w) r
+  pub total_follow : (a : A) (o : BoolOp) (r : Chain (Chain A)) → total (total w) (follow a (Some o) r) ≡ w a + total (total w) r
   unfolding total follow front
   total_follow a And (one t) = refl
   total_follow a And (then t r) = omega arith

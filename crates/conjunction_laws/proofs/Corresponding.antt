@@ -1,11 +1,10 @@
 -- A group's comparisons in a text in which the group stands elsewhere: they correspond one by one.
+use Rattle.std.specs.Prelude.{Err, Ok, Result}
 use Prim.Native.Nat.{suc}
 use mathlib.Core.Path.{◌≡◌, refl, sym, ap, ◌∙◌}
 use Rattle.token.specs.declared.Token.{Token}
 use Rattle.terminal.proofs.Inside.{joins_inside}
 use Rattle.syntax.specs.declared.comparison.Comparison.{Comparison}
-use Rattle.syntax.specs.declared.comparison.ComparisonResult.{ComparisonResult}
-use Rattle.syntax.specs.declared.comparison.ComparisonResult.TheVariants.{HasComparison, NoComparison}
 use Rattle.syntax.specs.Scan.{Scan}
 use Rattle.syntax.specs.Comparison.{property_comp}
 use Rattle.syntax.proofs.Simulation as pairs
@@ -16,6 +15,7 @@ use Rattle.query_text.specs.declared.join.Join.TheVariants.{Inner}
 use Rattle.query_text.specs.Query.{Comparisons, only, more}
 use Rattle.conjunction.specs.Conjunction.{size}
 use Rattle.conjunction_laws.proofs.Segments.{Segment, ends, goes}
+use Rattle.syntax.specs.declared.fault.Fault.{Fault}
 
 -- ---- lists of comparisons that correspond
 pub data Lists (P : Comparison → Comparison → Type 0) : Comparisons → Comparisons → Type 0 where
@@ -38,15 +38,15 @@ module _ {s z : Scan} {R : Token → Token → Type 0} (S : Simulates s z R) (en
   record Read-there (c : Comparison) (m y : Token) : Type 0 where
     pub other : Comparison
     pub after : Token
-    pub reads : property_comp z y ≡ HasComparison other after
+    pub reads : property_comp z y ≡ Ok (other, after)
     pub corresponds : pairs.Comparisons s z R c other
     pub afters : R m after
 
-  read_there : (c : Comparison) (m y : Token) (b : ComparisonResult) → property_comp z y ≡ b → ComparisonResults s z R (HasComparison c m) b → Read-there c m y
-  read_there c m y (HasComparison d n) e (has h k) = record { other = d; after = n; reads = e; corresponds = h; afters = k }
-  read_there c m y (NoComparison _) e h = elim h [ ]
+  read_there : (c : Comparison) (m y : Token) (b : Result (Comparison × Token) Fault) → property_comp z y ≡ b → ComparisonResults s z R (Ok (c, m)) b → Read-there c m y
+  read_there c m y (Ok (d, n)) e (has h k) = record { other = d; after = n; reads = e; corresponds = h; afters = k }
+  read_there c m y (Err _) e h = elim h [ ]
 
-  there : {x y m : Token} {c : Comparison} → R x y → property_comp s x ≡ HasComparison c m → Read-there c m y
+  there : {x y m : Token} {c : Comparison} → R x y → property_comp s x ≡ Ok (c, m) → Read-there c m y
   there {x} {y} {m} {c} r e = read_there c m y (property_comp z y) refl (rw e at (comparison_alike S enough other-enough r))
 
   pub found : {x w : Token} {l : Comparisons} → Segment s x l w → {y : Token} → R x y → Found l w y

@@ -1,3 +1,4 @@
+use Rattle.std.specs.Prelude.{Ok}
 use Rattle.string_literal.proofs.Local.{sequence_alike}
 -- UTF-8 in two texts that are alike: a part that starts and ends at ASCII bytes is as well-formed in one as in the other.
 use Prim.Native.Nat.{ℕ, zero, suc, ◌+◌, ◌-◌, ◌≤◌, ◌<◌}
@@ -15,7 +16,6 @@ use Rattle.base.specs.Part.{byte_at}
 use Rattle.base.proofs.Says.{and_both}
 use Rattle.scan.proofs.Alike.{Alike, stop, at_stops}
 use Rattle.encoding.specs.WellFormed.{Range, ◌‥◌, table, in_range, fits, sequence_in, sequence_at, ill_formed_from}
-use Rattle.encoding.specs.declared.text.Utf8.TheVariants.{WellFormed}
 use Rattle.encoding.proofs.WellFormed.{ill_formed_at, well_formed_next, sequence_fits}
 use Rattle.string_literal.proofs.Ascii.{low_byte}
 
@@ -68,7 +68,7 @@ behind s at j z l = rw get_or-drop at (sequence_byte table refl (drop at s) j z 
 
 -- ---- well-formed from a place on
 abbrev pub From : List ℕ → ℕ → Type 0
-From s at = ill_formed_from s at ≡ WellFormed
+From s at = ill_formed_from s at ≡ Ok tt
 
 pub at_end_law : (s : List ℕ) (at : ℕ) → length s ≤ at → From s at
 at_end_law s at h = ill_formed_at s at ∙ rw (le-ltb at (length s) h) refl

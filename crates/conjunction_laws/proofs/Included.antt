@@ -1,10 +1,11 @@
 -- What the evaluation of an accepted query comes to.
+use Rattle.std.specs.Prelude.{Ok}
 use Prim.Native.Nat.{ℕ}
 use mathlib.Core.Path.{◌≡◌, refl, ap, ◌∙◌}
 use mathlib.Core.List.{List}
 use mathlib.Core.Bool.{Bool, true, false}
 use Rattle.instance.specs.Conforms.{Conforms}
-use Rattle.instance.specs.declared.conform.Conformity.{Conformity}
+use Rattle.instance.specs.Fault.{Conformity}
 use Rattle.instance.proofs.Decides.{conforms_no_fault}
 use Rattle.query_text.specs.Query.{query}
 use Rattle.query_text.specs.Tree.{tree, holds}
@@ -23,6 +24,6 @@ module _ {q table : List ℕ} (A : Accepts q table) where
       ap is_included (evaluates q table i (is_accepted A) ∙ ap (λ (k : Conformity). answer_if k (truth_call (meant_in q table i) (call_of q table)) (steps q table i)) (conforms_no_fault table i c))
       ∙ go (truth_call (meant_in q table i) (call_of q table)) ∙ rw (called A) refl
     where
-      go : (b : Bool) → is_included (answer b (steps q table i)) ≡ b
+      go : (b : Bool) → is_included (Ok (answer b (steps q table i))) ≡ b
       go true = refl
       go false = refl

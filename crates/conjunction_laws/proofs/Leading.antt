@@ -1,4 +1,5 @@
 -- The group that starts with a token from which comparisons of a query are read, and what follows it there.
+use Rattle.std.specs.Prelude.{None, Some}
 use Prim.Native.Nat.{ℕ, ◌≤◌}
 use mathlib.Core.Path.{◌≡◌, refl, sym, ap, ◌∙◌}
 use mathlib.Core.List.{List}
@@ -14,7 +15,6 @@ use Rattle.token.proofs.Steps.{after_spans}
 use Rattle.token.proofs.Bounds.{after_past}
 use Rattle.token.proofs.Stands.{Standing, after_standing}
 use Rattle.terminal.specs.declared.operator.BoolOp.{BoolOp}
-use Rattle.terminal.specs.declared.operator.Joining.TheVariants.{With, NoBoolOp}
 use Rattle.terminal.specs.Terminal.{same, joining}
 use Rattle.terminal.proofs.KindCodes.{kind_is}
 use Rattle.terminal.proofs.Inside.{inside_token}
@@ -59,7 +59,7 @@ module _ (q : List ℕ) where
     pub behind_it : behind q t ≡ token_after q E.closing
     behind_it = ap (token_after q) (sym (closing_is E))
 
-    pub no_more : (g : Bool) → Finish (scan q) g E.closing → (group_at q t).joining ≡ NoBoolOp
+    pub no_more : (g : Bool) → Finish (scan q) g E.closing → (group_at q t).joining ≡ None
     unfolding group_at same
     no_more true k = ap joining behind_it ∙ no_operator (token_after q E.closing) k.1
     no_more false k =
@@ -73,7 +73,7 @@ module _ (q : List ℕ) where
     pub next_within : (token_after q (token_after q E.closing)).end ≤ length q
     next_within = let j = (after_spans q E.closing (closing_in E)).within in (after_spans q (token_after q E.closing) j).within
 
-    pub next_joining : (o : BoolOp) → Onward (scan q) E.closing o → (group_at q t).joining ≡ With o
+    pub next_joining : (o : BoolOp) → Onward (scan q) E.closing o → (group_at q t).joining ≡ Some o
     unfolding group_at
     next_joining o k = ap joining behind_it ∙ k.operator
 

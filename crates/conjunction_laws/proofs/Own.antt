@@ -1,4 +1,5 @@
 -- Each group of a query, its text taken by itself, is a query of its own, and the query's comparisons are those of its groups.
+use Rattle.std.specs.Prelude.{None, Option, Some}
 use Prim.Native.Nat.{ℕ, zero, suc, ◌+◌, ◌≤◌, ◌<◌}
 use mathlib.Core.Path.{◌≡◌, refl, sym, ap, ◌∙◌, subst}
 use mathlib.Core.List.{List}
@@ -20,8 +21,6 @@ use Rattle.token.proofs.Steps.{after_spans}
 use Rattle.token.proofs.Bounds.{at_past}
 use Rattle.token.proofs.Stands.{at_standing}
 use Rattle.terminal.specs.declared.operator.BoolOp.{BoolOp}
-use Rattle.terminal.specs.declared.operator.Joining.{Joining}
-use Rattle.terminal.specs.declared.operator.Joining.TheVariants.{With, NoBoolOp}
 use Rattle.terminal.specs.Terminal.{same, joining, word_kind}
 use Rattle.terminal.proofs.KindCodes.{kind_is}
 use Rattle.terminal.proofs.Inside.{word_there}
@@ -127,19 +126,19 @@ module _ (q : List ℕ) (encoded : From q 0) where
   unfolding Every
   last_part E h = record { groups = one_group (copies E h); each_own = own E h }
 
-  more_parts : {t : Token} (E : Expression q t) → size E.list ≤ 64 → (o : BoolOp) {x : Chain (Chain (List ℕ))} {L : Comparisons} → Parts x L → Parts (follow (group_text E) (With o) x) (chain_to E.list (Outer o) L)
+  more_parts : {t : Token} (E : Expression q t) → size E.list ≤ 64 → (o : BoolOp) {x : Chain (Chain (List ℕ))} {L : Comparisons} → Parts x L → Parts (follow (group_text E) (Some o) x) (chain_to E.list (Outer o) L)
   more_parts E h o {x} P = record { groups = more_groups (copies E h) o P.groups; each_own = follow_every Own (group_text E) o x (own E h) P.each_own }
 
   -- ---- its terms
   module _ {t : Token} (E : Expression q t) where
-    one_term : (group_at q t).joining ≡ NoBoolOp → terms_from q t ≡ one (one (group_text E))
+    one_term : (group_at q t).joining ≡ None → terms_from q t ≡ one (one (group_text E))
     unfolding follow
     one_term e = terms_next q t ∙ rw e refl
 
-    more_terms : (o : BoolOp) → Onward (scan q) E.closing o → terms_from q t ≡ follow (group_text E) (With o) (terms_from q (beyond (scan q) E.closing))
+    more_terms : (o : BoolOp) → Onward (scan q) E.closing o → terms_from q t ≡ follow (group_text E) (Some o) (terms_from q (beyond (scan q) E.closing))
     more_terms o k =
-        terms_next q t ∙ ap (λ (j : Joining). follow (group_text E) j (terms_from q (group_at q t).next)) (next_joining q E o k)
-        ∙ ap (λ (u : Token). follow (group_text E) (With o) (terms_from q u)) (next_is q E)
+        terms_next q t ∙ ap (λ (j : Option BoolOp). follow (group_text E) j (terms_from q (group_at q t).next)) (next_joining q E o k)
+        ∙ ap (λ (u : Token). follow (group_text E) (Some o) (terms_from q u)) (next_is q E)
 
   -- the groups from a token on; there are no more than comparisons
   parts_of : (f n : ℕ) (g : Bool) (t : Token) (L : Comparisons) → size L ≤ f → f ≤ 64 → Placed q t → query_from n (scan q) g t ≡ good L → Parts (terms_from q t) L

@@ -1,4 +1,5 @@
 -- A query's comparisons, group by group: what the reader finds divides into groups, and it finds just that wherever these groups stand one after the other in brackets.
+use Rattle.std.specs.Prelude.{Err, None, Ok, Option, Result, Some}
 use Prim.Native.Nat.{ℕ, zero, suc, ◌+◌, ◌≤◌, ◌<◌}
 use mathlib.Core.Path.{◌≡◌, refl, sym, ap, ◌∙◌}
 use mathlib.Core.Bool.{Bool, true, false}
@@ -9,24 +10,17 @@ use Rattle.token.specs.declared.Punctuation.TheVariants.{Open, Close}
 use Rattle.token.specs.declared.TokenKind.TheVariants.{End, Word, Symbol}
 use Rattle.token.specs.declared.Token.{Token}
 use Rattle.terminal.specs.declared.operator.BoolOp.{BoolOp}
-use Rattle.terminal.specs.declared.operator.Joining.{Joining}
-use Rattle.terminal.specs.declared.operator.Joining.TheVariants.{With, NoBoolOp}
 use Rattle.terminal.specs.Terminal.{same, joining}
 use Rattle.terminal.proofs.KindCodes.{other}
 use Rattle.syntax.specs.declared.comparison.Comparison.{Comparison}
-use Rattle.syntax.specs.declared.comparison.ComparisonResult.{ComparisonResult}
-use Rattle.syntax.specs.declared.comparison.ComparisonResult.TheVariants.{HasComparison, NoComparison}
 use Rattle.syntax.specs.Scan.{Scan}
 use Rattle.syntax.specs.Comparison.{property_comp}
 use Rattle.query_text.specs.declared.join.Join.{Join}
 use Rattle.query_text.specs.declared.join.Join.TheVariants.{Last, Inner, Outer}
-use Rattle.query_text.specs.declared.join.JoinResult.{JoinResult}
-use Rattle.query_text.specs.declared.join.JoinResult.TheVariants.{HasJoin, NoJoin}
-use Rattle.query_text.specs.declared.query.NextResult.{NextResult}
-use Rattle.query_text.specs.declared.query.NextResult.TheVariants.{HasNext, NoNext}
 use Rattle.query_text.specs.Query.{Comparisons, only, more, Query, bad, good, before, last_join, at_end, open_group, outer_by, after_group, outer, join_by, join_after, next_of, next_by, next_comparison, query_from}
 use Rattle.conjunction.specs.Conjunction.{size, comparisons}
 use Rattle.conjunction.proofs.Counting.{comparisons_few}
+use Rattle.syntax.specs.declared.fault.Fault.{Fault}
 
 -- comparisons, and others after a join
 unfoldable pub chain_to : Comparisons → Join → Comparisons → Comparisons
@@ -49,8 +43,8 @@ before_all l j (good r) = good (chain_to l j r)
 
 -- the comparisons of a group from a token on, and the token after them
 pub data Segment (s : Scan) : Token → Comparisons → Token → Type 0 where
-  ends : {t w : Token} {c : Comparison} → property_comp s t ≡ HasComparison c w → joining w ≡ NoBoolOp → Segment s t (only c) w
-  goes : {t m w : Token} {c : Comparison} {o : BoolOp} {l : Comparisons} → property_comp s t ≡ HasComparison c m → joining m ≡ With o → Segment s (s.next m) l w
+  ends : {t w : Token} {c : Comparison} → property_comp s t ≡ Ok (c, w) → joining w ≡ None → Segment s t (only c) w
+  goes : {t m w : Token} {c : Comparison} {o : BoolOp} {l : Comparisons} → property_comp s t ≡ Ok (c, m) → joining m ≡ Some o → Segment s (s.next m) l w
       → Segment s t (more c (Inner o) l) w
 
 before_one : (c : Comparison) (j : Join) (x : Query) → before c j x ≡ before_all (only c) j x
@@ -63,23 +57,23 @@ unfolding before before_all chain_to
 before_more c i l j (bad f) = refl
 before_more c i l j (good r) = refl
 
-pub no_operator : (m : Token) → same m End ≡ true → joining m ≡ NoBoolOp
+pub no_operator : (m : Token) → same m End ≡ true → joining m ≡ None
 unfolding joining
 no_operator m a = rw (other m End (Word Reserved.And) a refl, other m End (Word Reserved.Or) a refl) refl
 
 module _ (s : Scan) where
   -- ---- one step of the reader
-  abbrev continued : ℕ → Bool → NextResult → Query
-  continued n g (NoNext f) = bad f
-  continued n g (HasNext c j u) = elim (last_join j) [ true ↦ good (only c) | false ↦ before c j (query_from n s g u) ]
+  abbrev continued : ℕ → Bool → Result (Comparison × Join × Token) Fault → Query
+  continued n g (Err f) = bad f
+  continued n g (Ok (c, j, u)) = elim (last_join j) [ true ↦ good (only c) | false ↦ before c j (query_from n s g u) ]
 
   one_step : (n : ℕ) (g : Bool) (t : Token) → query_from (suc n) s g t ≡ continued n g (next_comparison s g t)
   unfolding query_from
   one_step n g t = go (next_comparison s g t) refl
     where
-      go : (x : NextResult) → next_comparison s g t ≡ x → query_from (suc n) s g t ≡ continued n g x
-      go (NoNext f) e = rw (e, query_from) refl
-      go (HasNext c j u) e = rw (e, query_from) refl
+      go : (x : Result (Comparison × Join × Token) Fault) → next_comparison s g t ≡ x → query_from (suc n) s g t ≡ continued n g x
+      go (Err f) e = rw (e, query_from) refl
+      go (Ok (c, j, u)) e = rw (e, query_from) refl
 
   -- what ends a query: its end, in a group behind ")"
   abbrev pub Finish : Bool → Token → Type 0
@@ -89,23 +83,23 @@ module _ (s : Scan) where
   -- what leads on from a group to the next
   pub record Onward (w : Token) (o : BoolOp) : Type 0 where
     pub close : same w (Symbol Close) ≡ true
-    pub operator : joining (s.next w) ≡ With o
+    pub operator : joining (s.next w) ≡ Some o
     pub opens : same (s.next (s.next w)) (Symbol Open) ≡ true
 
   -- the first token of the next group
   abbrev pub beyond : Token → Token
   beyond w = s.next (s.next (s.next w))
 
-  step_inner : (g : Bool) (t : Token) {m : Token} {c : Comparison} {o : BoolOp} → property_comp s t ≡ HasComparison c m → joining m ≡ With o → next_comparison s g t ≡ HasNext c (Inner o) (s.next m)
+  step_inner : (g : Bool) (t : Token) {m : Token} {c : Comparison} {o : BoolOp} → property_comp s t ≡ Ok (c, m) → joining m ≡ Some o → next_comparison s g t ≡ Ok (c, Inner o, s.next m)
   unfolding next_comparison next_by next_of join_after join_by
   step_inner g t e f = rw e (rw f refl)
 
-  step_last : (n : ℕ) (g : Bool) (t : Token) {w : Token} {c : Comparison} → property_comp s t ≡ HasComparison c w → joining w ≡ NoBoolOp → Finish g w → continued n g (next_comparison s g t) ≡ good (only c)
+  step_last : (n : ℕ) (g : Bool) (t : Token) {w : Token} {c : Comparison} → property_comp s t ≡ Ok (c, w) → joining w ≡ None → Finish g w → continued n g (next_comparison s g t) ≡ good (only c)
   unfolding next_comparison next_by next_of join_after join_by outer after_group outer_by at_end
   step_last n false t e f a = rw e (rw f (rw a refl))
   step_last n true t {w} e f a = rw e (rw f (rw a.0 (rw (no_operator (s.next w) a.1) (rw a.1 refl))))
 
-  step_outer : (t : Token) {w : Token} {c : Comparison} {o : BoolOp} → property_comp s t ≡ HasComparison c w → joining w ≡ NoBoolOp → Onward w o → next_comparison s true t ≡ HasNext c (Outer o) (beyond w)
+  step_outer : (t : Token) {w : Token} {c : Comparison} {o : BoolOp} → property_comp s t ≡ Ok (c, w) → joining w ≡ None → Onward w o → next_comparison s true t ≡ Ok (c, Outer o, beyond w)
   unfolding next_comparison next_by next_of join_after join_by outer after_group outer_by open_group
   step_outer t {w} e f a = rw e (rw f (rw a.close (rw a.operator (rw a.opens refl))))
 
@@ -131,38 +125,38 @@ module _ (s : Scan) where
     parts : {w : Token} {l L' : Comparisons} {o : BoolOp} (m : ℕ) → g ≡ true → Segment s t l w → Onward w o → query_from m s g (beyond w) ≡ good L' → L ≡ chain_to l (Outer o) L' → Split g t L
 
   -- what follows a comparison
-  data Following (g : Bool) (m : Token) : JoinResult → Type 0 where
-    inner : {o : BoolOp} → joining m ≡ With o → Following g m (HasJoin (Inner o) (s.next m))
-    last : {u : Token} → joining m ≡ NoBoolOp → Finish g m → Following g m (HasJoin Last u)
-    beyond_it : {o : BoolOp} → joining m ≡ NoBoolOp → g ≡ true → Onward m o → Following g m (HasJoin (Outer o) (beyond m))
-    not_one : {p : ℕ} → Following g m (NoJoin p)
+  data Following (g : Bool) (m : Token) : Result (Join × Token) ℕ → Type 0 where
+    inner : {o : BoolOp} → joining m ≡ Some o → Following g m (Ok (Inner o, s.next m))
+    last : {u : Token} → joining m ≡ None → Finish g m → Following g m (Ok (Last, u))
+    beyond_it : {o : BoolOp} → joining m ≡ None → g ≡ true → Onward m o → Following g m (Ok (Outer o, beyond m))
+    not_one : {p : ℕ} → Following g m (Err p)
 
-  end_following : (m : Token) → joining m ≡ NoBoolOp → Following false m (at_end m)
+  end_following : (m : Token) → joining m ≡ None → Following false m (at_end m)
   unfolding at_end
   end_following m e = go (same m End) refl
     where
-      go : (b : Bool) → same m End ≡ b → Following false m (pick b (HasJoin Last m) (NoJoin m.start))
+      go : (b : Bool) → same m End ≡ b → Following false m (pick b (Ok (Last, m)) (Err m.start))
       go true f = last e f
       go false f = not_one
 
-  outer_following : (m : Token) → joining m ≡ NoBoolOp → Following true m (outer s m)
+  outer_following : (m : Token) → joining m ≡ None → Following true m (outer s m)
   unfolding outer after_group outer_by open_group at_end
   outer_following m e = go (same m (Symbol Close)) refl
     where
-      finished : same m (Symbol Close) ≡ true → (b : Bool) → same (s.next m) End ≡ b → Following true m (pick b (HasJoin Last (s.next m)) (NoJoin (s.next m).start))
+      finished : same m (Symbol Close) ≡ true → (b : Bool) → same (s.next m) End ≡ b → Following true m (pick b (Ok (Last, s.next m)) (Err (s.next m).start))
       finished a true f = last e (a, f)
       finished a false f = not_one
 
-      opened : {o : BoolOp} → same m (Symbol Close) ≡ true → joining (s.next m) ≡ With o → (b : Bool) → same (s.next (s.next m)) (Symbol Open) ≡ b
-          → Following true m (pick b (HasJoin (Outer o) (beyond m)) (NoJoin (s.next (s.next m)).start))
+      opened : {o : BoolOp} → same m (Symbol Close) ≡ true → joining (s.next m) ≡ Some o → (b : Bool) → same (s.next (s.next m)) (Symbol Open) ≡ b
+          → Following true m (pick b (Ok (Outer o, beyond m)) (Err (s.next (s.next m)).start))
       opened a f true d = beyond_it e refl (record { close = a; operator = f; opens = d })
       opened a f false d = not_one
 
-      after : same m (Symbol Close) ≡ true → (x : Joining) → joining (s.next m) ≡ x → Following true m (outer_by s (s.next m) x)
-      after a (With o) f = opened a f (same (s.next (s.next m)) (Symbol Open)) refl
-      after a NoBoolOp f = finished a (same (s.next m) End) refl
+      after : same m (Symbol Close) ≡ true → (x : Option BoolOp) → joining (s.next m) ≡ x → Following true m (outer_by s (s.next m) x)
+      after a (Some o) f = opened a f (same (s.next (s.next m)) (Symbol Open)) refl
+      after a None f = finished a (same (s.next m) End) refl
 
-      go : (b : Bool) → same m (Symbol Close) ≡ b → Following true m (pick b (after_group s (s.next m)) (NoJoin m.start))
+      go : (b : Bool) → same m (Symbol Close) ≡ b → Following true m (pick b (after_group s (s.next m)) (Err m.start))
       go true a = after a (joining (s.next m)) refl
       go false a = not_one
 
@@ -170,10 +164,10 @@ module _ (s : Scan) where
   unfolding join_after join_by
   following g m = go g (joining m) refl
     where
-      go : (g : Bool) (x : Joining) → joining m ≡ x → Following g m (join_by s g m x)
-      go g (With o) e = inner e
-      go true NoBoolOp e = outer_following m e
-      go false NoBoolOp e = end_following m e
+      go : (g : Bool) (x : Option BoolOp) → joining m ≡ x → Following g m (join_by s g m x)
+      go g (Some o) e = inner e
+      go true None e = outer_following m e
+      go false None e = end_following m e
 
   pub good_only : {x y : Comparisons} → good x ≡ good y → x ≡ y
   good_only e = cc
@@ -183,32 +177,32 @@ module _ (s : Scan) where
   before_good c j (bad f) L e = let z : ◌≡◌ {A = ℕ} 0 1 = cc in absurd (omega arith)
   before_good c j (good l) L e = (l, refl, good_only (sym e))
 
-  prefixed : (g : Bool) {t m : Token} {c : Comparison} {o : BoolOp} {L : Comparisons} → property_comp s t ≡ HasComparison c m → joining m ≡ With o → Split g (s.next m) L
+  prefixed : (g : Bool) {t m : Token} {c : Comparison} {o : BoolOp} {L : Comparisons} → property_comp s t ≡ Ok (c, m) → joining m ≡ Some o → Split g (s.next m) L
       → Split g t (more c (Inner o) L)
   unfolding chain_to
   prefixed g e f (whole h k) = whole (goes e f h) k
   prefixed g {c = c} {o = o} e f (parts m x h k q r) = parts m x (goes e f h) k q (ap (more c (Inner o)) r)
 
-  split_by : (n : ℕ) (g : Bool) {t m : Token} {c : Comparison} {L : Comparisons} → property_comp s t ≡ HasComparison c m → (x : JoinResult) → Following g m x → continued n g (next_of c x) ≡ good L
+  split_by : (n : ℕ) (g : Bool) {t m : Token} {c : Comparison} {L : Comparisons} → property_comp s t ≡ Ok (c, m) → (x : Result (Join × Token) ℕ) → Following g m x → continued n g (next_of c x) ≡ good L
       → ((u : Token) (L : Comparisons) → query_from n s g u ≡ good L → Split g u L) → Split g t L
   unfolding next_of chain_to
-  split_by n g {c = c} {L = L} e (HasJoin (Inner o) u) (inner f) h again =
+  split_by n g {c = c} {L = L} e (Ok (Inner o, u)) (inner f) h again =
       let b = before_good c (Inner o) (query_from n s g u) L h in
       rw b.2 (prefixed g e f (again u b.0 b.1))
-  split_by n g {c = c} {L = L} e (HasJoin Last u) (last f k) h again = let z : L ≡ only c = sym (good_only h) in rw z (whole (ends e f) k)
-  split_by n g {c = c} {L = L} e (HasJoin (Outer o) u) (beyond_it f x k) h again =
+  split_by n g {c = c} {L = L} e (Ok (Last, u)) (last f k) h again = let z : L ≡ only c = sym (good_only h) in rw z (whole (ends e f) k)
+  split_by n g {c = c} {L = L} e (Ok (Outer o, u)) (beyond_it f x k) h again =
       let b = before_good c (Outer o) (query_from n s g u) L h in
       parts n x (ends e f) k b.1 b.2
-  split_by n g e (NoJoin p) not_one h again = let z : ◌≡◌ {A = ℕ} 0 1 = cc in absurd (omega arith)
+  split_by n g e (Err p) not_one h again = let z : ◌≡◌ {A = ℕ} 0 1 = cc in absurd (omega arith)
 
   pub split : (n : ℕ) (g : Bool) (t : Token) (L : Comparisons) → query_from n s g t ≡ good L → Split g t L
   unfolding query_from next_comparison next_by
   split zero g t L e = let z : ◌≡◌ {A = ℕ} 0 1 = cc in absurd (omega arith)
   split (suc n) g t L e = go (property_comp s t) refl (sym (one_step n g t) ∙ e) (split n g)
     where
-      go : (x : ComparisonResult) → property_comp s t ≡ x → continued n g (next_by s g x) ≡ good L → ((u : Token) (L : Comparisons) → query_from n s g u ≡ good L → Split g u L) → Split g t L
-      go (NoComparison f) h k again = let z : ◌≡◌ {A = ℕ} 0 1 = cc in absurd (omega arith)
-      go (HasComparison c m) h k again = split_by n g h (join_after s g m) (following g m) k again
+      go : (x : Result (Comparison × Token) Fault) → property_comp s t ≡ x → continued n g (next_by s g x) ≡ good L → ((u : Token) (L : Comparisons) → query_from n s g u ≡ good L → Split g u L) → Split g t L
+      go (Err f) h k again = let z : ◌≡◌ {A = ℕ} 0 1 = cc in absurd (omega arith)
+      go (Ok (c, m)) h k again = split_by n g h (join_after s g m) (following g m) k again
 
   -- no more than it takes
   pub few : (n : ℕ) (g : Bool) (t : Token) (L : Comparisons) → query_from n s g t ≡ good L → size L ≤ n
@@ -222,8 +216,8 @@ module _ (s : Scan) where
   wider (suc n) zero g t L h e = absurd (omega arith)
   wider (suc n) (suc m) g t L h e = one_step m g t ∙ go (next_comparison s g t) (sym (one_step n g t) ∙ e) (λ u L' f. wider n m g u L' (omega arith) f)
     where
-      go : (x : NextResult) → continued n g x ≡ good L → ((u : Token) (L : Comparisons) → query_from n s g u ≡ good L → query_from m s g u ≡ good L) → continued m g x ≡ good L
-      go (NoNext f) h again = h
-      go (HasNext c Last u) h again = h
-      go (HasNext c (Inner o) u) h again = let b = before_good c (Inner o) (query_from n s g u) L h in ap (before c (Inner o)) (again u b.0 b.1) ∙ ap good (sym b.2)
-      go (HasNext c (Outer o) u) h again = let b = before_good c (Outer o) (query_from n s g u) L h in ap (before c (Outer o)) (again u b.0 b.1) ∙ ap good (sym b.2)
+      go : (x : Result (Comparison × Join × Token) Fault) → continued n g x ≡ good L → ((u : Token) (L : Comparisons) → query_from n s g u ≡ good L → query_from m s g u ≡ good L) → continued m g x ≡ good L
+      go (Err f) h again = h
+      go (Ok (c, Last, u)) h again = h
+      go (Ok (c, Inner o, u)) h again = let b = before_good c (Inner o) (query_from n s g u) L h in ap (before c (Inner o)) (again u b.0 b.1) ∙ ap good (sym b.2)
+      go (Ok (c, Outer o, u)) h again = let b = before_good c (Outer o) (query_from n s g u) L h in ap (before c (Outer o)) (again u b.0 b.1) ∙ ap good (sym b.2)

@@ -2,6 +2,7 @@
 -- comparisons as 43 counts (`counted`); and where conjoin returns a length, the buffer holds it (`leaves`).
 -- The way: a query comes to what its groups come to, each as a query of its own (`parts_in`); so does the text that is written of them (`read_text`); and the product of the terms comes
 -- to what both queries' terms come to (Chains).
+use Rattle.std.specs.Prelude.{Err, Ok, Result}
 use Prim.Native.Nat.{ℕ, ◌≤◌, ◌<◌}
 use mathlib.Core.Path.{◌≡◌, refl, sym, ap, ◌∙◌}
 use mathlib.Core.List.{List}
@@ -16,16 +17,11 @@ use Rattle.syntax.specs.Scan.{scan}
 use Rattle.query_text.specs.Query.{Query, bad, good, query}
 use Rattle.query_text.specs.Tree.{Chain, tree, holds}
 use Rattle.filter.specs.Check.{check}
-use Rattle.filter.specs.declared.refusal.Checked.{Checked}
-use Rattle.filter.specs.declared.refusal.Checked.TheVariants as checked
-use Rattle.filter.specs.declared.refusal.Checked.TheVariants.{Accepted}
 use Rattle.conjunction.specs.Groups.{terms_of}
 use Rattle.conjunction.specs.Conjunction.{products, text, conjunction, size, comparisons, count, comparisons_of, is_too_large}
 use Rattle.conjunction.specs.Conjoin.{refused, conjoin_second, conjoin_first, conjoin, buffer_by, buffer_after}
 use Rattle.conjunction.specs.declared.refusal.ConjoinCause.TheVariants.{Size, Buffer}
 use Rattle.conjunction.specs.declared.refusal.ConjoinRefusal.{ConjoinRefusal}
-use Rattle.conjunction.specs.declared.refusal.Conjoined.{Conjoined}
-use Rattle.conjunction.specs.declared.refusal.Conjoined.TheVariants as conjoined
 use Rattle.conjunction_laws.specs.Joins.{Joins, query_within, Counts, Leaves}
 use Rattle.conjunction_laws.proofs.Chains.{products_every, products_hold, products_total}
 use Rattle.conjunction_laws.proofs.Segments.{good_only, few, wider}
@@ -34,8 +30,9 @@ use Rattle.conjunction_laws.proofs.Own.{Own, Parts, parts_in}
 use Rattle.conjunction_laws.proofs.Written.{Reads, read_text, text_reads, text_encoded}
 use Rattle.filter.proofs.Accepted.{Accepts, accepts, is_accepted}
 use Rattle.conjunction_laws.proofs.Included.{included}
+use Rattle.filter.specs.declared.refusal.Refusal.{Refusal}
 
-module _ (q p table : List ℕ) (first : check q table ≡ Accepted) (second : check p table ≡ Accepted) where
+module _ (q p table : List ℕ) (first : check q table ≡ Ok tt) (second : check p table ≡ Ok tt) where
   abbrev of_first : Accepts q table
   of_first = accepts q table first
 
@@ -118,38 +115,38 @@ module _ (q p table : List ℕ) (first : check q table ≡ Accepted) (second : c
 module _ (q p table buffer : List ℕ) where
   -- a call that returns a length has passed both checks and both limits
   record Passed (n : ℕ) : Type 0 where
-    pub first : check q table ≡ Accepted
-    pub second : check p table ≡ Accepted
+    pub first : check q table ≡ Ok tt
+    pub second : check p table ≡ Ok tt
     pub small : is_too_large q p ≡ false
     pub measured : n ≡ length (conjunction q p)
     pub room : n ≤ length buffer
 
-  not_length : {A : Type 0} {r : ConjoinRefusal} {n : ℕ} → conjoined.Refused r ≡ conjoined.Length n → A
+  not_length : {A : Type 0} {r : ConjoinRefusal} {n : ℕ} → Err r ≡ Ok n → A
   not_length e = let z : ◌≡◌ {A = ℕ} 0 1 = cc in absurd (omega arith)
 
-  passed : (n : ℕ) → conjoin q p table (length buffer) ≡ conjoined.Length n → Passed n
+  passed : (n : ℕ) → conjoin q p table (length buffer) ≡ Ok n → Passed n
   unfolding conjoin
   passed n = by_first (check q table) refl
     where
-      by_room : check q table ≡ Accepted → check p table ≡ Accepted → is_too_large q p ≡ false → (b : Bool) → ltb (length buffer) (length (conjunction q p)) ≡ b
-          → pick b (refused Buffer 0) (conjoined.Length (length (conjunction q p))) ≡ conjoined.Length n → Passed n
+      by_room : check q table ≡ Ok tt → check p table ≡ Ok tt → is_too_large q p ≡ false → (b : Bool) → ltb (length buffer) (length (conjunction q p)) ≡ b
+          → pick b (refused Buffer 0) (Ok (length (conjunction q p))) ≡ Ok n → Passed n
       by_room f s t true b e = not_length e
       by_room f s t false b e = let z : length (conjunction q p) ≡ n = cc in record { first = f; second = s; small = t; measured = sym z; room = omega (arith, ltb-false (length buffer) (length (conjunction q p)) b) }
 
-      by_size : check q table ≡ Accepted → check p table ≡ Accepted → (b : Bool) → is_too_large q p ≡ b
-          → pick b (refused Size 0) (pick (ltb (length buffer) (length (conjunction q p))) (refused Buffer 0) (conjoined.Length (length (conjunction q p)))) ≡ conjoined.Length n → Passed n
+      by_size : check q table ≡ Ok tt → check p table ≡ Ok tt → (b : Bool) → is_too_large q p ≡ b
+          → pick b (refused Size 0) (pick (ltb (length buffer) (length (conjunction q p))) (refused Buffer 0) (Ok (length (conjunction q p)))) ≡ Ok n → Passed n
       by_size f s true t e = not_length e
       by_size f s false t e = by_room f s t (ltb (length buffer) (length (conjunction q p))) refl e
 
-      by_second : check q table ≡ Accepted → (x : Checked) → check p table ≡ x → conjoin_second q p (length buffer) x ≡ conjoined.Length n → Passed n
-      by_second f (checked.Refused r) s e = not_length e
-      by_second f checked.Accepted s e = by_size f s (is_too_large q p) refl e
+      by_second : check q table ≡ Ok tt → (x : Result (Unit {0}) Refusal) → check p table ≡ x → conjoin_second q p (length buffer) x ≡ Ok n → Passed n
+      by_second f (Err r) s e = not_length e
+      by_second f (Ok tt) s e = by_size f s (is_too_large q p) refl e
 
-      by_first : (x : Checked) → check q table ≡ x → conjoin_first q p table (length buffer) x ≡ conjoined.Length n → Passed n
-      by_first (checked.Refused r) f e = not_length e
-      by_first checked.Accepted f e = by_second f (check p table) refl e
+      by_first : (x : Result (Unit {0}) Refusal) → check q table ≡ x → conjoin_first q p table (length buffer) x ≡ Ok n → Passed n
+      by_first (Err r) f e = not_length e
+      by_first (Ok tt) f e = by_second f (check p table) refl e
 
-  pub leaves : (n : ℕ) → conjoin q p table (length buffer) ≡ conjoined.Length n → Leaves q p table buffer n
+  pub leaves : (n : ℕ) → conjoin q p table (length buffer) ≡ Ok n → Leaves q p table buffer n
   unfolding buffer_after
   leaves n e =
       let c = passed n e in
@@ -157,6 +154,6 @@ module _ (q p table buffer : List ℕ) where
         joins = joins q p table c.first c.second c.small;
         measured = c.measured;
         room = c.room;
-        text = ap (λ (x : Conjoined). take n (buffer_by q p buffer x)) e ∙ take_at (conjunction q p) (drop n buffer) n (sym c.measured);
-        beyond = ap (λ (x : Conjoined). drop n (buffer_by q p buffer x)) e ∙ drop_at (conjunction q p) (drop n buffer) n (sym c.measured);
+        text = ap (λ (x : Result ℕ ConjoinRefusal). take n (buffer_by q p buffer x)) e ∙ take_at (conjunction q p) (drop n buffer) n (sym c.measured);
+        beyond = ap (λ (x : Result ℕ ConjoinRefusal). drop n (buffer_by q p buffer x)) e ∙ drop_at (conjunction q p) (drop n buffer) n (sym c.measured);
       }

@@ -1,4 +1,5 @@
 -- The tokens of a group in its query: they go from its first one up to `last`, and what stands behind that ends the group's comparisons.
+use Rattle.std.specs.Prelude.{Ok}
 use Prim.Native.Nat.{ℕ, zero, suc, ◌-◌, ◌≤◌, ◌<◌}
 use mathlib.Core.Path.{◌≡◌, refl, sym, ap, ◌∙◌}
 use mathlib.Core.List.{List}
@@ -17,7 +18,6 @@ use Rattle.terminal.specs.Terminal.{same, word_kind, unsigned, quantifying, insi
 use Rattle.terminal.proofs.KindCodes.{kind_is}
 use Rattle.terminal.proofs.Inside.{word_inside, inside_token}
 use Rattle.syntax.specs.declared.comparison.Comparison.{Comparison}
-use Rattle.syntax.specs.declared.comparison.ComparisonResult.TheVariants.{HasComparison}
 use Rattle.syntax.specs.Scan.{scan}
 use Rattle.syntax.specs.Property.{property, with_path, reference}
 use Rattle.syntax.specs.Comparison.{left_of, left_by, left_at, left_side, comp_left, property_comp}
@@ -121,10 +121,10 @@ module _ (q : List ℕ) where
 
   -- ---- a comparison starts with a word
   nothing_read : (t : Token) → same t (Word Reserved.Not) ≡ false → same t (Word Reserved.Any) ≡ false → same t (Word Reserved.Every) ≡ false → same t Name ≡ false
-      → (c : Comparison) (w : Token) → property_comp (scan q) t ≡ HasComparison c w → ⊥
+      → (c : Comparison) (w : Token) → property_comp (scan q) t ≡ Ok (c, w) → ⊥
   unfolding property_comp comp_left left_side left_at left_by quantifying reference with_path property left_of
   nothing_read t a b d n c w e =
-      let y : comp_left (scan q) (left_side (scan q) t) ≡ HasComparison c w = e in
+      let y : comp_left (scan q) (left_side (scan q) t) ≡ Ok (c, w) = e in
       let z = rw (a, b, d, n) at y in
       let x : ◌≡◌ {A = ℕ} 0 1 = cc in
       omega arith
@@ -139,7 +139,7 @@ module _ (q : List ℕ) where
   pub starts_word : {t w : Token} {l : Comparisons} → Segment (scan q) t l w → word_kind t.kind ≡ true
   starts_word {t} h = go (word_kind t.kind) refl h
     where
-      none_there : (t : Token) → word_kind t.kind ≡ false → (c : Comparison) (w : Token) → property_comp (scan q) t ≡ HasComparison c w → ⊥
+      none_there : (t : Token) → word_kind t.kind ≡ false → (c : Comparison) (w : Token) → property_comp (scan q) t ≡ Ok (c, w) → ⊥
       none_there t o = nothing_read t (not_word t (Word Reserved.Not) refl o) (not_word t (Word Reserved.Any) refl o) (not_word t (Word Reserved.Every) refl o) (not_word t Name refl o)
 
       go : {t w : Token} {l : Comparisons} (b : Bool) → word_kind t.kind ≡ b → Segment (scan q) t l w → word_kind t.kind ≡ true

@@ -1,4 +1,5 @@
 -- The text of each group of an accepted query is what stands between its brackets, or the whole query without any, without outer whitespace.
+use Rattle.std.specs.Prelude.{None, Ok, Some}
 use Prim.Native.Nat.{ℕ, zero, suc, ◌+◌, ◌-◌, ◌≤◌, ◌<◌}
 use mathlib.Core.Path.{◌≡◌, refl, sym, ap, ◌∙◌, subst}
 use mathlib.Core.List.{List, [], ◌∷◌, ◌++◌}
@@ -16,13 +17,11 @@ use Rattle.token.specs.declared.Token.{Token}
 use Rattle.token.specs.Token.{token, token_after}
 use Rattle.token.proofs.Steps.{after_spans}
 use Rattle.terminal.specs.declared.operator.BoolOp.{BoolOp}
-use Rattle.terminal.specs.declared.operator.Joining.TheVariants.{With, NoBoolOp}
 use Rattle.terminal.specs.Terminal.{same}
 use Rattle.terminal.proofs.KindCodes.{kind_is}
 use Rattle.syntax.specs.Scan.{scan, skip}
 use Rattle.query_text.specs.Query.{Comparisons, good, start_at, query_start, query_from, query}
 use Rattle.filter.specs.Check.{check}
-use Rattle.filter.specs.declared.refusal.Checked.TheVariants.{Accepted}
 use Rattle.conjunction.specs.Groups.{last, behind, group_at, text_of}
 use Rattle.conjunction_laws.specs.Trimmed.{trim_start, trim_end, trim, Before, whole, first, next, closing, between, Encloses, brackets, ends, Trims}
 use Rattle.conjunction_laws.proofs.Behind.{after_start, after_ended}
@@ -114,11 +113,11 @@ module _ (q : List ℕ) where
   lead : {b : Token} (R : Read b) → Leading q R.grouped (token_after q b) R.list
   lead {b} R = leading q R.limit R.grouped (token_after q b) R.list (next_placed q b R.within) R.reads
 
-  read_next : {b : Token} {o : BoolOp} → Read b → (group_at q (token_after q b)).joining ≡ With o → Read (token_after q (behind q (token_after q b)))
+  read_next : {b : Token} {o : BoolOp} → Read b → (group_at q (token_after q b)).joining ≡ Some o → Read (token_after q (behind q (token_after q b)))
   read_next {b} {o} R e = go (lead R)
     where
       go : Leading q R.grouped (token_after q b) R.list → Read (token_after q (behind q (token_after q b)))
-      go (final E c a) = let y : NoBoolOp ≡ With o = sym (no_more q E R.grouped a) ∙ e in let z : ◌≡◌ {A = ℕ} 0 1 = cc in absurd (omega arith)
+      go (final E c a) = let y : None ≡ Some o = sym (no_more q E R.grouped a) ∙ e in let z : ◌≡◌ {A = ℕ} 0 1 = cc in absurd (omega arith)
       go (earlier E {R = L} m g a r c) =
           subst (λ (u : Token). Read (token_after q u)) (sym (behind_it q E))
           (record {
@@ -190,5 +189,5 @@ module _ (q : List ℕ) where
       go true o (earlier E m g a r c) = trims_by b E (in_brackets b E o (kind_is E.closing (Symbol Close) a.close))
       go false o (earlier E m g a r c) = let z : ◌≡◌ {A = ℕ} 0 1 = cc in absurd (omega arith)
 
-pub group_trimmed : (q table : List ℕ) → check q table ≡ Accepted → (b : Token) → Before q b → Trims q b
+pub group_trimmed : (q table : List ℕ) → check q table ≡ Ok tt → (b : Token) → Before q b → Trims q b
 group_trimmed q table e b h = let A = accepts q table e in trims q (read_before q A.list A.read h)

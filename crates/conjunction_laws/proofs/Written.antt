@@ -1,4 +1,5 @@
 -- Groups written one after the other in brackets, with AND and OR between them: the text is read, group by group, and it is UTF-8 where they are.
+use Rattle.std.specs.Prelude.{Some}
 use Prim.Native.Nat.{ℕ, ◌+◌, ◌-◌, ◌≤◌}
 use mathlib.Core.Path.{◌≡◌, refl, sym, ap, ◌∙◌, subst}
 use mathlib.Core.List.{List, [], ◌∷◌, ◌++◌, append_assoc}
@@ -15,7 +16,6 @@ use Rattle.token.proofs.Local.{shifted, at_shifted, after_shifted}
 use Rattle.token.proofs.Bounds.{after_past}
 use Rattle.terminal.specs.declared.operator.BoolOp.{BoolOp}
 use Rattle.terminal.specs.declared.operator.BoolOp.TheVariants.{And, Or}
-use Rattle.terminal.specs.declared.operator.Joining.TheVariants.{With}
 use Rattle.terminal.specs.Terminal.{same, joining}
 use Rattle.syntax.specs.Scan.{scan}
 use Rattle.query_text.specs.declared.join.Join.TheVariants.{Outer}
@@ -43,7 +43,7 @@ opened (one (then g t)) = refl
 opened (then (one g) r) = refl
 opened (then (then g t) r) = refl
 
-body_follow : (g : List ℕ) (o : BoolOp) (r : Chain (Chain (List ℕ))) → body (follow g (With o) r) ≡ g ++ (41 ∷ (operator_text o ++ body r))
+body_follow : (g : List ℕ) (o : BoolOp) (r : Chain (Chain (List ℕ))) → body (follow g (Some o) r) ≡ g ++ (41 ∷ (operator_text o ++ body r))
 unfolding text term_text follow front
 body_follow g And (one t) = append_assoc g (bytes ")") (bytes " AND " ++ term_text t) ∙ ap (λ (s : List ℕ). g ++ (bytes ") AND " ++ s)) (opened (one t))
 body_follow g And (then t r) = simp append_assoc (ap (λ (s : List ℕ). g ++ (bytes ") AND " ++ s)) (opened (then t r)))
@@ -132,7 +132,7 @@ module _ {g : List ℕ} (G : Own g) (o : BoolOp) (q r : List ℕ) where
   unfolding same joining
   onward = record { close = refl; operator = ap joining operator_there ∙ joins o; opens = ap (λ (t : Token). same t (Symbol Open)) bracket_there ∙ opens o }
     where
-      joins : (o : BoolOp) → joining (moved (operator_token o)) ≡ With o
+      joins : (o : BoolOp) → joining (moved (operator_token o)) ≡ Some o
       joins And = refl
       joins Or = refl
 
@@ -180,7 +180,7 @@ module _ {g : List ℕ} (G : Own g) (o : BoolOp) (q : List ℕ) (x : Chain (Chai
   abbrev own_part : Elsewhere g (expression G).list J (length q) (length (q ++ g)) (closed G o q (body x))
   own_part = here G q behind_it
 
-  more_read : Reads x J (length (before_next G o q (body x))) → Reads (follow g (With o) x) J (length q)
+  more_read : Reads x J (length (before_next G o q (body x))) → Reads (follow g (Some o) x) J (length q)
   unfolding before_all
   more_read k =
       record {
@@ -202,11 +202,11 @@ read_body = by_groups (λ (x : Chain (Chain (List ℕ))). Every (Every Own) x �
     ending g G q = subst (λ (J : List ℕ). Reads (one (one g)) J (length q)) (append_assoc q g (41 ∷ [])) (last_read G q)
 
     linking : (g : List ℕ) (o : BoolOp) (x : Chain (Chain (List ℕ))) → (Every (Every Own) x → (q : List ℕ) → Reads x (q ++ body x) (length q))
-        → Every (Every Own) (follow g (With o) x) → (q : List ℕ) → Reads (follow g (With o) x) (q ++ body (follow g (With o) x)) (length q)
+        → Every (Every Own) (follow g (Some o) x) → (q : List ℕ) → Reads (follow g (Some o) x) (q ++ body (follow g (Some o) x)) (length q)
     linking g o x again h q =
         let p = every_follow Own g o x h in
         let b = before_next p.0 o q (body x) in
-        subst (λ (J : List ℕ). Reads (follow g (With o) x) J (length q)) (append_assoc q g (41 ∷ (operator_text o ++ body x)) ∙ ap (λ (s : List ℕ). q ++ s) (sym (body_follow g o x)))
+        subst (λ (J : List ℕ). Reads (follow g (Some o) x) J (length q)) (append_assoc q g (41 ∷ (operator_text o ++ body x)) ∙ ap (λ (s : List ℕ). q ++ s) (sym (body_follow g o x)))
         (more_read p.0 o q x (subst (λ (J : List ℕ). Reads x J (length b)) (same_text p.0 o q (body x)) (again p.1 b)))
 
 -- ---- the whole text

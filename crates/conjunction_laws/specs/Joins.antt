@@ -1,18 +1,17 @@
 -- 02 Q-7, of the text that two queries are made into.
-use Rattle.std.specs.Prelude.{ℕ, ◌≤◌, ◌<◌, ◌≡◌, List, ◌&&◌, length, take, drop}
+use Rattle.std.specs.Prelude.{ℕ, ◌≤◌, ◌<◌, ◌≡◌, List, ◌&&◌, length, take, drop, Ok}
 use Rattle.instance.specs.Conforms.{Conforms}
 use Rattle.syntax.specs.Scan.{scan}
 use Rattle.query_text.specs.Query.{Query, query_start, query_from}
 use Rattle.filter.specs.Check.{check}
 use Rattle.filter.specs.Evaluate.{evaluate}
-use Rattle.filter.specs.declared.refusal.Checked.TheVariants.{Accepted}
 use Rattle.conjunction.specs.Conjunction.{conjunction, comparisons, comparisons_of}
 use Rattle.conjunction.specs.Conjoin.{buffer_after}
 use Rattle.run.specs.Totals.{is_included}
 
 -- "What is written is accepted by the check against the same table and holds exactly where both do."
 pub record Joins (q p table : List ℕ) : Type 0 where
-  pub accepted : check (conjunction q p) table ≡ Accepted
+  pub accepted : check (conjunction q p) table ≡ Ok tt
   pub includes : (i : List ℕ) → Conforms table i → is_included (evaluate (conjunction q p) table i) ≡ (is_included (evaluate q table i) && is_included (evaluate p table i))
 
 -- a text as a query of at most so many comparisons; `query` has 64

@@ -1,6 +1,6 @@
 -- 02 Q-7: "Each group is the text between its brackets, or the whole unbracketed query, without outer whitespace". conjunction/specs/Groups goes from a group's first token to its
 -- last; `Trims` says that this is the same.
-use Rattle.std.specs.Prelude.{ℕ, ◌-◌, ◌≤◌, ◌≡◌, List, [], ◌∷◌, true, false, length}
+use Rattle.std.specs.Prelude.{ℕ, ◌-◌, ◌≤◌, ◌≡◌, List, [], ◌∷◌, true, false, length, Some}
 use Rattle.base.specs.Pick.{pick}
 use Rattle.base.specs.Part.{part}
 use Rattle.scan.specs.Class.{white}
@@ -9,7 +9,6 @@ use Rattle.token.specs.declared.TokenKind.TheVariants.{End, Symbol}
 use Rattle.token.specs.declared.Token.{Token}
 use Rattle.token.specs.Token.{token, token_after}
 use Rattle.terminal.specs.declared.operator.BoolOp.{BoolOp}
-use Rattle.terminal.specs.declared.operator.Joining.TheVariants.{With}
 use Rattle.syntax.specs.Scan.{scan}
 use Rattle.query_text.specs.Query.{query_start}
 use Rattle.conjunction.specs.Groups.{last, behind, group_at, text_of}
@@ -35,7 +34,7 @@ trim s = trim_end (trim_start s)
 pub data Before (q : List ℕ) : Token → Type 0 where
   whole : (query_start (scan q)).grouped ≡ false → Before q (token End 0 0)
   first : (query_start (scan q)).grouped ≡ true → Before q (token_after q (token End 0 0))
-  next : {b : Token} {o : BoolOp} → Before q b → (group_at q (token_after q b)).joining ≡ With o → Before q (token_after q (behind q (token_after q b)))
+  next : {b : Token} {o : BoolOp} → Before q b → (group_at q (token_after q b)).joining ≡ Some o → Before q (token_after q (behind q (token_after q b)))
 
 -- what stands behind the last token of the group after such a token
 abbrev pub closing : (query : List ℕ) (before : Token) → Token

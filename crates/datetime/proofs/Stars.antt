@@ -1,18 +1,18 @@
 -- One law for each exit of the functions that find the unknown digits and fill them in.
 use Prim.Native.Nat.{ℕ, suc, ◌+◌, ◌-◌, ◌≤◌, ◌<◌}
 use mathlib.Core.Path.{◌≡◌, refl, sym, ap, ◌∙◌}
-use mathlib.Core.Bool.{Bool, true, false, not, or-false}
-use mathlib.Core.List.{List, ◌++◌, append-nil, append_assoc}
-use native.Mathlib.Numerals.{add-one}
+use mathlib.Core.Bool.{Bool, true, false, not, ◌&&◌, or-false}
+use mathlib.Core.List.{List, [], ◌∷◌, ◌++◌, append-nil, append_assoc}
 use native.Mathlib.Omega.{arith}
-use lib.ListN.{length, take, drop, length-drop}
-use lib.Seq.{sets, sets-eq, take-suc, drop-cons, take_all, append_snoc, drop-length}
+use lib.ListN.{length, take, drop, length-drop, take-append-drop}
+use lib.Seq.{drop-drop, length-take-le, sets, sets-eq, take_all, drop-length}
 use lib.Dec.{leb, eqb, eqb→eq}
 use borrow.Author.Tests.{eq-eqb, ne_eqb}
 use Rattle.base.specs.Pick.{pick}
 use Rattle.base.specs.Ascii.{bytes}
-use Rattle.base.specs.Part.{part, byte_at}
-use Rattle.base.proofs.Lists.{says_same}
+use Rattle.base.specs.Part.{part, byte_at, same_bytes}
+use Rattle.std.proofs.Common.{nat_eq}
+use lib.Pointwise.{pointwise}
 use Rattle.base.proofs.Tabulate.{all_at}
 use Rattle.text_writer.specs.Decimal.{decimal}
 use Rattle.text_writer.specs.Written.{Written}
@@ -20,7 +20,6 @@ use Rattle.datetime.specs.Calendar.{leap_year, days_in_month}
 use Rattle.datetime.specs.Text.{date_in, sign_in}
 use Rattle.datetime.specs.Unknown.{star_from, known, filled, tailed, may_start, lowest_digits, lowest_text}
 use Rattle.datetime.specs.declared.fields.Date.{Date}
-use Rattle.datetime.proofs.Filled.{byte_filled, filled_none}
 
 -- the first star
 module _ {b : ℕ} (s : List ℕ) (i : ℕ) (inv : known s ≡ star_from s i (21 - i)) (here : i < 21) (e : b ≡ byte_at s i) where
@@ -40,34 +39,57 @@ pub star_none : (s : List ℕ) (i : ℕ) → known s ≡ star_from s i (21 - i) 
 unfolding star_from
 star_none s i inv h l = let z : 21 - i ≡ 0 = omega arith in let e : i ≡ 21 = omega arith in sym (inv ∙ rw (z, e) refl)
 
--- the tail: where a byte is the expected one, filling in from the next byte on gives the same text
+-- the tail: the text is as it would be filled in with stars where its bytes from `k` up to the sign are those
 abbrev pub stars : List ℕ
 stars = bytes "**************.******"
 
 pub star_at : (i : ℕ) → i < 21 → byte_at stars i ≡ pick (eqb i 14) 46 42
 star_at i h = eqb→eq _ _ (all_at (λ (k : ℕ). eqb (byte_at stars k) (pick (eqb k 14) 46 42)) 21 tt i h)
 
-module _ {b : ℕ} (s : List ℕ) (k i : ℕ) (inv : filled k stars s ≡ filled i stars s) (here : i < 21) (long : length s ≡ 25) (e : b ≡ pick (eqb i 14) 46 42) where
-  pub tail_broken : (byte_at s i ≡ b → ⊥) → false ≡ tailed k s
-  tail_broken h = go (tailed k s) refl
-    where
-      go : (t : Bool) → tailed k s ≡ t → false ≡ t
-      go true f =
-          let g : filled i stars s ≡ s = sym inv ∙ (says_same (filled k stars s) s).to f in
-          let z : byte_at s i ≡ byte_at stars i = sym (ap (λ (l : List ℕ). byte_at l i) g) ∙ byte_filled i stars s (omega arith) long refl i (omega arith) here in
-          absurd (h (z ∙ star_at i here ∙ sym e))
-      go false f = refl
+same_itself : (l : List ℕ) → same_bytes l l ≡ true
+unfolding same_bytes
+same_itself [] = refl
+same_itself (x ∷ l) = rw (eq-eqb x x refl) (same_itself l)
 
-  pub tail_goes_on : byte_at s i ≡ b → filled k stars s ≡ filled (i + 1) stars s
-  unfolding filled
-  tail_goes_on h =
-      let z : byte_at stars i ≡ byte_at s i = star_at i here ∙ sym e ∙ sym h in
-      inv ∙ rw (drop-cons stars i 0 here, z, add-one i, take-suc s i 0 (omega arith)) (sym (append_snoc (take i s) (byte_at s i) (drop (suc i) stars ++ drop 21 s)))
+same_behind : (front a b : List ℕ) → same_bytes (front ++ a) (front ++ b) ≡ same_bytes a b
+unfolding same_bytes
+same_behind [] a b = refl
+same_behind (x ∷ front) a b = rw (eq-eqb x x refl) (same_behind front a b)
 
-pub tail_whole : (s : List ℕ) (k i : ℕ) → filled k stars s ≡ filled i stars s → i ≤ 21 → 21 ≤ i → true ≡ tailed k s
-tail_whole s k i inv h l =
-    let e : i ≡ 21 = omega arith in
-    sym ((says_same (filled k stars s) s).from (inv ∙ ap (λ (n : ℕ). filled n stars s) e ∙ filled_none stars s refl))
+same_before : (a b rest : List ℕ) → length a ≡ length b → same_bytes (a ++ rest) (b ++ rest) ≡ same_bytes a b
+unfolding same_bytes
+same_before [] [] rest h = same_itself rest
+same_before [] (y ∷ b) rest h = absurd (omega arith)
+same_before (x ∷ a) [] rest h = absurd (omega arith)
+same_before (x ∷ a) (y ∷ b) rest h = rw (same_before a b rest (omega arith)) refl
+
+same_listed : (a b : List ℕ) → pointwise nat_eq a b ≡ same_bytes a b
+unfolding same_bytes
+same_listed [] [] = refl
+same_listed [] (y ∷ b) = refl
+same_listed (x ∷ a) [] = refl
+same_listed (x ∷ a) (y ∷ b) = go (eqb x y) (same_listed a b)
+  where
+    go : (t : Bool) → pointwise nat_eq a b ≡ same_bytes a b → (t && pointwise nat_eq a b) ≡ pick t (same_bytes a b) false
+    go true e = e
+    go false e = refl
+
+pub tail_told : {r : Bool} (s : List ℕ) (k : ℕ) → k ≤ 21 → length s ≡ 25 → r ≡ pointwise nat_eq (take (21 - k) (drop k stars)) (take (21 - k) (drop k s)) → r ≡ tailed k s
+unfolding filled
+tail_told s k few long told =
+    let middle = take (21 - k) (drop k s) in
+    let left : length (drop k s) ≡ 25 - k = rw (length-drop, long) in
+    let starred : length (drop k stars) ≡ 21 - k = length-drop k stars in
+    let whole : take (21 - k) (drop k stars) ≡ drop k stars = take_all (21 - k) (drop k stars) (omega arith) in
+    let long_middle : length middle ≡ 21 - k = length-take-le (21 - k) (drop k s) (omega arith) in
+    let all : k + (21 - k) ≡ 21 = omega arith in
+    let rest : middle ++ drop 21 s ≡ drop k s = ap (λ (l : List ℕ). middle ++ l) (sym (drop-drop (21 - k) k s ∙ ap (λ (n : ℕ). drop n s) all)) ∙ take-append-drop (21 - k) (drop k s) in
+    told
+    ∙ ap (λ (l : List ℕ). pointwise nat_eq l middle) whole
+    ∙ same_listed (drop k stars) middle
+    ∙ sym (same_before (drop k stars) middle (drop 21 s) (starred ∙ sym long_middle))
+    ∙ sym (same_behind (take k s) (drop k stars ++ drop 21 s) (middle ++ drop 21 s))
+    ∙ ap (same_bytes (take k s ++ (drop k stars ++ drop 21 s))) (ap (λ (l : List ℕ). take k s ++ l) rest ∙ take-append-drop k s)
 
 -- where a tail may start
 module _ {k : ℕ} (interval : Bool) (n : ℕ) (is : k ≡ n) where

@@ -7,13 +7,7 @@ use crate::days_before::days_before_in_cycle;
 pub fn is_leap_year(y: u64) -> bool
     ensures { result ≡ leap_year y }
 {
-    if y % 400 == 0 {
-        return true;
-    }
-    if y % 100 == 0 {
-        return false;
-    }
-    y % 4 == 0
+    y % 400 == 0 || (y % 100 != 0 && y % 4 == 0)
 }
 
 // 400 years have 146097 days.
@@ -25,6 +19,7 @@ pub(crate) fn days_before_year(y: u64) -> u64
     y / 400 * 146097 + days_before_in_cycle(k)
 }
 
+#[tactic(auto, unfolding(crate::specs::Calendar::days_before_month))]
 fn days_before_month_of_common_year(m: u64) -> u64
     requires { (1 ≤ m) × (m ≤ 12) }
     ensures { (result ≡ days_before_month false m) × (result < 335) }
@@ -51,19 +46,13 @@ pub(crate) fn days_before_month(leap: bool, m: u64) -> u64
     ensures { (result ≡ days_before_month leap m) × (result < 400) }
 {
     let days = days_before_month_of_common_year(m);
-    if leap & (2 < m) {
-        return days + 1;
-    }
-    days
+    if leap & (2 < m) { days + 1 } else { days }
 }
 
 fn days_in_february(leap: bool) -> u64
     ensures { result ≡ days_in_month leap 2 }
 {
-    if leap {
-        return 29;
-    }
-    28
+    if leap { 29 } else { 28 }
 }
 
 pub(crate) fn days_in_month(leap: bool, m: u64) -> u64
@@ -72,10 +61,7 @@ pub(crate) fn days_in_month(leap: bool, m: u64) -> u64
 {
     match m {
         2 => days_in_february(leap),
-        4 => 30,
-        6 => 30,
-        9 => 30,
-        11 => 30,
+        4 | 6 | 9 | 11 => 30,
         _ => 31,
     }
 }

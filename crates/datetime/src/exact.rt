@@ -10,19 +10,13 @@ use base::decimal::decimal_at;
 fn is_sign(sign: u8) -> bool
     ensures { result ≡ is_sign sign }
 {
-    if sign == b'+' {
-        return true;
-    }
-    sign == b'-'
+    matches!(sign, b'+' | b'-')
 }
 
 pub(crate) fn is_exact(s: &[u8]) -> bool
     ensures { result ≡ (is_timestamp s.now || is_interval s.now) }
 {
-    if !is_shaped(s) {
-        return false;
-    }
-    if !is_time(time_in(s)) {
+    if !is_shaped(s) || !is_time(time_in(s)) {
         return false;
     }
     let sign = s[21];

@@ -12,13 +12,13 @@ pub mod text;
 pub mod unknown;
 
 // From a lowest to a highest moment or length, in microseconds.
-#[derive(Clone, Copy)]
+#[derive(Clone, Copy, PartialEq, Eq)]
 pub struct Span {
     pub lowest: i64,
     pub highest: i64,
 }
 
-// What a datetime's text says: a timestamp's moments or an interval's lengths.
+// What a datetime's text says: a timestamp's moments or an interval's lengths. A text that is neither is a value too, in no order with any, and so no Option.
 #[derive(Clone, Copy)]
 pub enum Datetime {
     Timestamp(Span),

@@ -14,10 +14,7 @@ fn is_starred(s: &[u8]) -> bool
         return false;
     }
     let known = known_in(s);
-    if !is_tailed(known, s) {
-        return false;
-    }
-    if !may_start(s[21] == b':', known) {
+    if !is_tailed(known, s) || !may_start(s[21] == b':', known) {
         return false;
     }
     let mut text = [0u8; 25];
@@ -52,9 +49,10 @@ fn sort_by_sign(sign: u8, span: Span) -> Datetime
     ensures { result ≡ sorted (eqb sign 58) span }
 {
     if sign == b':' {
-        return Datetime::Interval(span);
+        Datetime::Interval(span)
+    } else {
+        Datetime::Timestamp(span)
     }
-    Datetime::Timestamp(span)
 }
 
 pub fn read_datetime(s: &[u8]) -> Datetime

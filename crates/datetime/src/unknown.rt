@@ -17,63 +17,42 @@ use text_writer::decimal::write_decimal;
 pub(crate) fn known_in(s: &[u8]) -> usize
     ensures { (result ≡ known s.now) × (result ≤ 21) }
 {
-    let mut i = 0;
-    while i < 21 {
+    for i in 0..21 {
         if byte_at(s, i) == b'*' {
             return i;
         }
-        i += 1;
     }
     21
-}
-
-fn tail_byte(at: usize) -> u8
-    ensures { result ≡ pick (eqb at 14) 46 42 }
-{
-    if at == 14 {
-        return b'.';
-    }
-    b'*'
 }
 
 pub(crate) fn is_tailed(known: usize, s: &[u8]) -> bool
     requires { (length s.now ≡ 25) × (known ≤ 21) }
     ensures { result ≡ tailed known s.now }
 {
-    let mut i = known;
-    while i < 21 {
-        if s[i] != tail_byte(i) {
-            return false;
-        }
-        i += 1;
-    }
-    true
+    let stars: &[u8] = b"**************.******";
+    stars[known..] == s[known..21]
 }
 
 pub(crate) fn may_start(interval: bool, known: usize) -> bool
     ensures { result ≡ may_start interval known }
 {
     match known {
-        0 => true,
-        4 => !interval,
-        6 => !interval,
-        8 => true,
-        10 => true,
-        12 => true,
+        0 | 8 | 10 | 12 => true,
+        4 | 6 => !interval,
         _ => 15 <= known,
     }
 }
 
-fn fill(known: usize, digits: &[u8], s: &[u8], out: &mut [u8])
-    requires { (known ≤ 21) × (length digits.now ≡ 21) × (length s.now ≡ 25) × (length out.old ≡ 25) }
+fn fill(known: usize, digits: &[u8; 21], s: &[u8], out: &mut [u8; 25])
+    requires { (known ≤ 21) × (length s.now ≡ 25) }
     ensures { out.new ≡ filled known digits.now s.now }
 {
     write_text(out, 0, s);
     write_text(out, known, piece(digits, known, 21));
 }
 
-pub(crate) fn fill_lowest(known: usize, s: &[u8], out: &mut [u8])
-    requires { (known ≤ 21) × (length s.now ≡ 25) × (length out.old ≡ 25) }
+pub(crate) fn fill_lowest(known: usize, s: &[u8], out: &mut [u8; 25])
+    requires { (known ≤ 21) × (length s.now ≡ 25) }
     ensures { out.new ≡ lowest_text known s.now }
 {
     if s[21] == b':' {
@@ -93,8 +72,8 @@ fn set_last_day(out: &mut [u8])
     write_decimal(out, 6, last as usize);
 }
 
-pub(crate) fn fill_highest(known: usize, s: &[u8], out: &mut [u8])
-    requires { (says_to known s.now ≡ true) × (known ≤ 21) × (length out.old ≡ 25) }
+pub(crate) fn fill_highest(known: usize, s: &[u8], out: &mut [u8; 25])
+    requires { (says_to known s.now ≡ true) × (known ≤ 21) }
     ensures { out.new ≡ highest_text known s.now }
 {
     if s[21] == b':' {

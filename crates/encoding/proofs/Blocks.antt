@@ -13,7 +13,7 @@ use borrow.Author.Tests.{ltb-true, ltb-false, leb-true, eqb-true, eqb-false, eq-
 use Rattle.base.specs.Part.{byte_at}
 use Rattle.base.specs.Pick.{pick}
 use Rattle.base.proofs.Says.{and_both, or_neither, apart}
-use Rattle.encoding.specs.declared.text.Utf8.TheVariants.{WellFormed, IllFormed}
+use Rattle.std.specs.Prelude.{Ok, Err}
 use Rattle.encoding.specs.WellFormed.{Range, table, fits, sequence_in, sequence_at, ill_formed_from, first_ill_formed}
 use Rattle.encoding.specs.Blocks.{all_ascii, EndsAscii, Reaches, here, onward, Passed, Walked, Moved}
 use Rattle.encoding.proofs.WellFormed.{lead_ascii, single, ill_formed_at, sequence_fits, past_end, well_formed_end}
@@ -199,7 +199,7 @@ reaches_dropped s k (onward {p} r z) =
     rw e at (reaches_on s k (k + p) n (reaches_dropped s k r) (sequence_dropped s k p) z)
 
 module _ (s : List ℕ) {start : ℕ} (ascii : Moved s 0 (length s) start) where
-  pub ascii_found : length s ≤ start → WellFormed ≡ first_ill_formed s
+  pub ascii_found : length s ≤ start → Ok tt ≡ first_ill_formed s
   ascii_found h = well_formed_end s start (reaches_same s 0 start ascii.reaches ascii.ends) h
 
   -- what is left, as the code cuts it off
@@ -217,14 +217,14 @@ module _ (s : List ℕ) {start : ℕ} (ascii : Moved s 0 (length s) start) where
     same =
         reaches_same s 0 (start + end) (reaches_joined ascii.reaches (reaches_dropped s start further.reaches)) (omega (arith, left, further.ends, ascii.ends))
 
-    pub ill_formed_found : end < length (take (length s - start) (drop start s)) → IllFormed (start + end) ≡ first_ill_formed s
+    pub ill_formed_found : end < length (take (length s - start) (drop start s)) → Err (start + end) ≡ first_ill_formed s
     ill_formed_found h =
         let more : end < length (drop start s) = rw all_left at h in
         let none : sequence_at s (start + end) ≡ 0 = sym (sequence_dropped s start end) ∙ further.stuck more (sequence_fits (drop start s) end) in
         let inside : start + end < length s = omega (arith, left, more) in
         sym (same ∙ ill_formed_at s (start + end) ∙ rw (lt-ltb _ _ inside, eq-eqb _ _ none))
 
-    pub well_formed_found : length (take (length s - start) (drop start s)) ≤ end → WellFormed ≡ first_ill_formed s
+    pub well_formed_found : length (take (length s - start) (drop start s)) ≤ end → Ok tt ≡ first_ill_formed s
     well_formed_found h =
         let over : length (drop start s) ≤ end = rw all_left at h in
         well_formed_end s (start + end) same (omega (arith, left, over))

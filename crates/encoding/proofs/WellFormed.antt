@@ -7,17 +7,16 @@ use native.Mathlib.Omega.{arith}
 use native.Mathlib.Decide.{dec_lt}
 use lib.ListN.{length, get_or, take, drop, length-drop}
 use lib.Dec.{ltb, eqb}
-use borrow.Author.Tests.{ltb-true, eqb-false, lt-ltb, le-ltb, eq-eqb, ne_eqb}
+use borrow.Author.Tests.{ltb-true, eqb-false, lt-ltb, le-ltb, ne_eqb}
 use Rattle.base.specs.Pick.{pick}
 use Rattle.base.specs.Range.{within}
 use Rattle.base.proofs.Walk.{from_at}
 use Rattle.base.proofs.Lists.{left_next, at_end_law}
 use Rattle.base.proofs.Says.{and_both}
 use Rattle.base.proofs.Tabulate.{tab, tab_at}
-use Rattle.encoding.specs.declared.text.Utf8.{Utf8}
-use Rattle.encoding.specs.declared.text.Utf8.TheVariants.{WellFormed, IllFormed}
+use Rattle.std.specs.Prelude.{Result, Ok, Err}
 use Rattle.encoding.specs.WellFormed.{Range, ◌‥◌, continuation, table, in_range, fits, sequence_in, sequence_at, ill_formed_step, ill_formed_from, first_ill_formed}
-use Rattle.encoding.specs.Lead.{starts_with, row_in, row_of, lead_length, second_low, second_high, low, high}
+use Rattle.encoding.specs.Lead.{starts_with, row_in, row_of, lead_length, second_low, second_high}
 
 -- two functions of a byte that are equal as tables are equal at each byte
 by_table : {A : Type 0} (f g : ℕ → A) → tab f 0 256 ≡ tab g 0 256 → (b : ℕ) → b < 256 → f b ≡ g b
@@ -59,23 +58,14 @@ unfolding second_high row_of row_in starts_with in_range within
 high_by = by_table second_high _ refl
 
 module _ (b : ℕ) (byte : b < 256) where
-  pub low_e0 : b ≡ 0xE0 → 0xA0 ≡ second_low b
-  low_e0 h = rw (low_by b byte, eq-eqb _ _ h)
-
-  pub low_f0 : (b ≡ 0xE0 → ⊥) → b ≡ 0xF0 → 0x90 ≡ second_low b
-  low_f0 n h = rw (low_by b byte, ne_eqb _ _ n, eq-eqb _ _ h)
-
-  pub low_other : (b ≡ 0xE0 → ⊥) → (b ≡ 0xF0 → ⊥) → 0x80 ≡ second_low b
+  low_other : (b ≡ 0xE0 → ⊥) → (b ≡ 0xF0 → ⊥) → 0x80 ≡ second_low b
   low_other n n2 = rw (low_by b byte, ne_eqb _ _ n, ne_eqb _ _ n2)
 
-  pub high_ed : b ≡ 0xED → 0x9F ≡ second_high b
-  high_ed h = rw (high_by b byte, eq-eqb _ _ h)
-
-  pub high_f4 : (b ≡ 0xED → ⊥) → b ≡ 0xF4 → 0x8F ≡ second_high b
-  high_f4 n h = rw (high_by b byte, ne_eqb _ _ n, eq-eqb _ _ h)
-
-  pub high_other : (b ≡ 0xED → ⊥) → (b ≡ 0xF4 → ⊥) → 0xBF ≡ second_high b
+  high_other : (b ≡ 0xED → ⊥) → (b ≡ 0xF4 → ⊥) → 0xBF ≡ second_high b
   high_other n n2 = rw (high_by b byte, ne_eqb _ _ n, ne_eqb _ _ n2)
+
+  pub second_other : (b ≡ 0xE0 → ⊥) → (b ≡ 0xED → ⊥) → (b ≡ 0xF0 → ⊥) → (b ≡ 0xF4 → ⊥) → ◌≡◌ {A = ℕ × ℕ} (0x80, 0xBF) (second_low b, second_high b)
+  second_other e0 ed f0 f4 = rw (← low_other e0 f0, ← high_other ed f4) refl
 
 -- no row starts with a byte; at most one does
 unfoldable none : List (List Range) → ℕ → Bool
@@ -287,33 +277,33 @@ module _ (s : List ℕ) (at : ℕ) (inside : at < length s) where
 -- the check, one step
 pub ill_formed_at : (s : List ℕ) (at : ℕ) → ill_formed_from s at ≡ ill_formed_step s at (ill_formed_from s)
 unfolding ill_formed_from
-ill_formed_at s = from_at (ill_formed_step s) WellFormed (length s) (λ at p q h. one at p q h (ltb at (length s)) refl)
+ill_formed_at s = from_at (ill_formed_step s) (Ok tt) (length s) (λ at p q h. one at p q h (ltb at (length s)) refl)
   where
-    two : (at : ℕ) (p q : ℕ → Utf8) → ((next : ℕ) → at < next → next ≤ length s → p next ≡ q next) → at < length s
+    two : (at : ℕ) (p q : ℕ → Result (Unit {0}) ℕ) → ((next : ℕ) → at < next → next ≤ length s → p next ≡ q next) → at < length s
         → (t : Bool) → eqb (sequence_at s at) 0 ≡ t
-        → pick t (IllFormed at) (p (at + sequence_at s at)) ≡ pick t (IllFormed at) (q (at + sequence_at s at))
+        → pick t (Err at) (p (at + sequence_at s at)) ≡ pick t (Err at) (q (at + sequence_at s at))
     two at p q h l true e = refl
     two at p q h l false e =
         let f = sequence_fits s at in
         let z = eqb-false (sequence_at s at) 0 e in
         h (at + sequence_at s at) (omega arith) (omega arith)
 
-    one : (at : ℕ) (p q : ℕ → Utf8) → ((next : ℕ) → at < next → next ≤ length s → p next ≡ q next)
+    one : (at : ℕ) (p q : ℕ → Result (Unit {0}) ℕ) → ((next : ℕ) → at < next → next ≤ length s → p next ≡ q next)
         → (t : Bool) → ltb at (length s) ≡ t
-        → pick t (pick (eqb (sequence_at s at) 0) (IllFormed at) (p (at + sequence_at s at))) WellFormed
-        ≡ pick t (pick (eqb (sequence_at s at) 0) (IllFormed at) (q (at + sequence_at s at))) WellFormed
+        → pick t (pick (eqb (sequence_at s at) 0) (Err at) (p (at + sequence_at s at))) (Ok tt)
+        ≡ pick t (pick (eqb (sequence_at s at) 0) (Err at) (q (at + sequence_at s at))) (Ok tt)
     one at p q h true e = two at p q h (ltb-true at (length s) e) (eqb (sequence_at s at) 0) refl
     one at p q h false e = refl
 
-pub well_formed_end : (s : List ℕ) (at : ℕ) → first_ill_formed s ≡ ill_formed_from s at → length s ≤ at → WellFormed ≡ first_ill_formed s
+pub well_formed_end : (s : List ℕ) (at : ℕ) → first_ill_formed s ≡ ill_formed_from s at → length s ≤ at → Ok tt ≡ first_ill_formed s
 well_formed_end s at left h = sym (left ∙ ill_formed_at s at ∙ rw (le-ltb _ _ h))
 
 -- in a well-formed text a sequence starts at each place where one should, and what follows it is well-formed
-pub well_formed_next : (s : List ℕ) (at : ℕ) → ill_formed_from s at ≡ WellFormed → at < length s
-    → (sequence_at s at ≡ 0 → ⊥) × (ill_formed_from s (at + sequence_at s at) ≡ WellFormed)
+pub well_formed_next : (s : List ℕ) (at : ℕ) → ill_formed_from s at ≡ Ok tt → at < length s
+    → (sequence_at s at ≡ 0 → ⊥) × (ill_formed_from s (at + sequence_at s at) ≡ Ok tt)
 well_formed_next s at w inside = go (eqb (sequence_at s at) 0) refl (sym (ill_formed_at s at ∙ rw (lt-ltb _ _ inside)) ∙ w)
   where
-    go : (t : Bool) → eqb (sequence_at s at) 0 ≡ t → pick t (IllFormed at) (ill_formed_from s (at + sequence_at s at)) ≡ WellFormed
-        → (sequence_at s at ≡ 0 → ⊥) × (ill_formed_from s (at + sequence_at s at) ≡ WellFormed)
+    go : (t : Bool) → eqb (sequence_at s at) 0 ≡ t → pick t (Err at) (ill_formed_from s (at + sequence_at s at)) ≡ Ok tt
+        → (sequence_at s at ≡ 0 → ⊥) × (ill_formed_from s (at + sequence_at s at) ≡ Ok tt)
     go true e h = absurd (let z : ◌≡◌ {A = ℕ} 0 1 = cc in omega arith)
     go false e h = (eqb-false (sequence_at s at) 0 e, h)

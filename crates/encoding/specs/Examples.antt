@@ -1,17 +1,15 @@
 -- Texts with what is expected of them: the first and the last sequence of each row of Table 3-7, and each cause of an ill-formed one.
-use Rattle.std.specs.Prelude.{ℕ, List, [], ◌∷◌}
-use Rattle.encoding.specs.declared.text.Utf8.{Utf8}
-use Rattle.encoding.specs.declared.text.Utf8.TheVariants.{WellFormed, IllFormed}
+use Rattle.std.specs.Prelude.{ℕ, List, [], ◌∷◌, Result, Ok, Err}
 
 -- a text that is well-formed, and one that isn't from a place on; each with its characters
 abbrev pub Example : Type 0
-Example = List ℕ × (Utf8 × List ℕ)
+Example = List ℕ × (Result (Unit {0}) ℕ × List ℕ)
 
 abbrev pub good : List ℕ → List ℕ → Example
-good s v = (s, (WellFormed, v))
+good s v = (s, (Ok tt, v))
 
 abbrev pub bad : List ℕ → ℕ → List ℕ → Example
-bad s at v = (s, (IllFormed at, v))
+bad s at v = (s, (Err at, v))
 
 abbrev pub examples : List Example
 examples =

@@ -1,10 +1,8 @@
 -- Well-formed UTF-8: Table 3-7 of the Unicode Standard, "Well-Formed UTF-8 Byte Sequences", as a table.
-use Rattle.std.specs.Prelude.{ℕ, ◌+◌, List, [], ◌∷◌, Bool, true, false, ◌&&◌, length, drop, ltb, eqb}
+use Rattle.std.specs.Prelude.{ℕ, ◌+◌, List, [], ◌∷◌, Bool, true, false, ◌&&◌, length, drop, ltb, eqb, Result, Ok, Err}
 use Rattle.base.specs.Pick.{pick}
 use Rattle.base.specs.Range.{within}
 use Rattle.base.specs.Walk.{from}
-use Rattle.encoding.specs.declared.text.Utf8.{Utf8}
-use Rattle.encoding.specs.declared.text.Utf8.TheVariants.{WellFormed, IllFormed}
 
 -- the bytes from one to another, both included
 pub data Range : Type 0 where
@@ -47,14 +45,14 @@ sequence_in (row ∷ rows) s = pick (fits row s) (length row) (sequence_in rows 
 unfoldable pub sequence_at : List ℕ → ℕ → ℕ
 sequence_at s at = sequence_in table (drop at s)
 
-abbrev pub ill_formed_step : List ℕ → ℕ → (ℕ → Utf8) → Utf8
+abbrev pub ill_formed_step : List ℕ → ℕ → (ℕ → Result (Unit {0}) ℕ) → Result (Unit {0}) ℕ
 ill_formed_step s at rest =
-    pick (ltb at (length s)) (pick (eqb (sequence_at s at) 0) (IllFormed at) (rest (at + sequence_at s at))) WellFormed
+    pick (ltb at (length s)) (pick (eqb (sequence_at s at) 0) (Err at) (rest (at + sequence_at s at))) (Ok tt)
 
 -- the first place, from one on, at which a sequence should start and no well-formed one does
-unfoldable pub ill_formed_from : List ℕ → ℕ → Utf8
-ill_formed_from s = from (ill_formed_step s) WellFormed (length s)
+unfoldable pub ill_formed_from : List ℕ → ℕ → Result (Unit {0}) ℕ
+ill_formed_from s = from (ill_formed_step s) (Ok tt) (length s)
 
--- whether a text is well-formed, with the first byte of its first ill-formed sequence if it isn't
-abbrev pub first_ill_formed : List ℕ → Utf8
+-- whether a text is well-formed; the error is the first byte of its first ill-formed sequence
+abbrev pub first_ill_formed : List ℕ → Result (Unit {0}) ℕ
 first_ill_formed s = ill_formed_from s 0

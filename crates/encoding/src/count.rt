@@ -13,13 +13,7 @@ fn is_block(s: &[u8], at: usize, n: usize) -> bool
     requires { at < length s.now }
     ensures { Block s.now at result }
 {
-    if n != 1 {
-        return false;
-    }
-    if s.len() - at < BLOCK {
-        return false;
-    }
-    all_ascii(s, at, BLOCK)
+    n == 1 && BLOCK <= s.len() - at && all_ascii(s, at, BLOCK)
 }
 
 // How many characters there are from a place on.

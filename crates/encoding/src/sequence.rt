@@ -7,37 +7,25 @@ ghost use Rattle.encoding.specs.WellFormed.{sequence_at};
 use crate::whole::is_continuation;
 use base::bytes::in_range;
 
-// After E0 and F0 lower bytes would be an overlong form.
-fn second_low(b: u8) -> u8
-    ensures { result ≡ second_low b }
+// The lowest and the highest second byte: after E0 and F0 lower ones would be an overlong form, after ED higher ones surrogates, after F4 above 10FFFF.
+fn second_range(first: u8) -> (u8, u8)
+    ensures { result ≡ (second_low first, second_high first) }
 {
-    if b == 0xe0 {
-        return 0xa0;
+    match first {
+        0xe0 => (0xa0, 0xbf),
+        0xed => (0x80, 0x9f),
+        0xf0 => (0x90, 0xbf),
+        0xf4 => (0x80, 0x8f),
+        _ => (0x80, 0xbf),
     }
-    if b == 0xf0 {
-        return 0x90;
-    }
-    0x80
-}
-
-// After ED higher bytes would be surrogates, after F4 above 10FFFF.
-fn second_high(b: u8) -> u8
-    ensures { result ≡ second_high b }
-{
-    if b == 0xed {
-        return 0x9f;
-    }
-    if b == 0xf4 {
-        return 0x8f;
-    }
-    0xbf
 }
 
 // Whether a byte may come after the first one.
 fn is_second(first: u8, b: u8) -> bool
     ensures { result ≡ within (second_low first) (second_high first) b }
 {
-    in_range(second_low(first), second_high(first), b)
+    let (low, high) = second_range(first);
+    in_range(low, high, b)
 }
 
 fn two_at(s: &[u8], at: usize) -> usize
@@ -50,10 +38,7 @@ fn two_at(s: &[u8], at: usize) -> usize
     if s.len() - at < 2 {
         return 0;
     }
-    if is_continuation(s[at + 1]) {
-        return 2;
-    }
-    0
+    if is_continuation(s[at + 1]) { 2 } else { 0 }
 }
 
 fn three_at(s: &[u8], at: usize) -> usize
@@ -64,9 +49,10 @@ fn three_at(s: &[u8], at: usize) -> usize
         return 0;
     }
     if is_second(s[at], s[at + 1]) & is_continuation(s[at + 2]) {
-        return 3;
+        3
+    } else {
+        0
     }
-    0
 }
 
 fn four_at(s: &[u8], at: usize) -> usize
@@ -80,12 +66,13 @@ fn four_at(s: &[u8], at: usize) -> usize
         return 0;
     }
     if is_second(s[at], s[at + 1]) & is_continuation(s[at + 2]) & is_continuation(s[at + 3]) {
-        return 4;
+        4
+    } else {
+        0
     }
-    0
 }
 
-// The length of the well-formed sequence at a place; 0 if none starts there.
+// The length of the well-formed sequence at a place; 0 if none starts there, and no Option: the laws of a walk add and compare lengths.
 pub fn sequence_at(s: &[u8], at: usize) -> usize
     ensures { result ≡ sequence_at s.now at }
 {

@@ -1,15 +1,9 @@
 // A whole text.
-ghost use Rattle.std.specs.Prelude.{◌≡◌, ◌-◌, ◌≤◌, ◌<◌, min, length};
+ghost use Rattle.std.specs.Prelude.{◌≡◌, ◌-◌, ◌≤◌, ◌<◌, length};
 ghost use Rattle.encoding.specs.WellFormed.{first_ill_formed};
 ghost use Rattle.encoding.specs.Blocks.{all_ascii, EndsAscii, Passed, Walked, Moved};
 
 use crate::whole::pass_whole;
-
-#[derive(Drop)]
-pub enum Utf8 {
-    WellFormed,
-    IllFormed(usize),
-}
 
 // Whether the `n` bytes from `at` on are below 0x80. All of them are looked at: where no byte ends the loop early, the compiler tests a block at once.
 pub(crate) fn all_ascii(s: &[u8], at: usize, n: usize) -> bool
@@ -17,10 +11,8 @@ pub(crate) fn all_ascii(s: &[u8], at: usize, n: usize) -> bool
     ensures { result ≡ all_ascii s.now at n }
 {
     let mut all = true;
-    let mut i = 0;
-    while i < n {
+    for i in 0..n {
         all = all & (s[at + i] < 0x80);
-        i += 1;
     }
     all
 }
@@ -81,17 +73,11 @@ fn pass_block(s: &[u8], at: usize, stop: usize) -> usize
     pass_sequences(s, at, at + 64)
 }
 
-fn smaller(m: usize, n: usize) -> usize
-    ensures { result ≡ min m n }
-{
-    if m < n { m } else { n }
-}
-
 // The end of the sequences from `at` on that end by `stop`: the last one's, or the first ill-formed place.
 pub fn pass_text(s: &[u8], at: usize, stop: usize) -> usize
     ensures { Walked s.now at stop result }
 {
-    let end = smaller(s.len(), stop);
+    let end = s.len().min(stop);
     let mut next = at;
     while next < end {
         let then = pass_block(s, next, end);
@@ -120,18 +106,18 @@ fn pass_ascii(s: &[u8]) -> usize
     next
 }
 
-// Whether a text is well-formed, with the first byte of its first ill-formed sequence if it isn't.
-pub fn check_utf8(s: &[u8]) -> Utf8
+// Whether a text is well-formed; the error is the first byte of its first ill-formed sequence.
+pub fn check_utf8(s: &[u8]) -> Result<(), usize>
     ensures { result ≡ first_ill_formed s.now }
 {
     let start = pass_ascii(s);
     if s.len() <= start {
-        return Utf8::WellFormed;
+        return Ok(());
     }
     let rest = &s[start..];
     let end = pass_text(rest, 0, rest.len());
     if end < rest.len() {
-        return Utf8::IllFormed(start + end);
+        return Err(start + end);
     }
-    Utf8::WellFormed
+    Ok(())
 }

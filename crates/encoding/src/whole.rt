@@ -2,10 +2,13 @@
 ghost use Rattle.std.specs.Prelude.{◌≡◌, ◌+◌, ◌-◌, ◌≤◌, ◌<◌, length};
 ghost use Rattle.encoding.specs.Blocks.{is_continuation, of_one, of_two, of_three, all_whole, whole_at, WholeRun, LastStart, Moved};
 
+use base::bytes::in_range;
+
+#[tactic(auto, unfolding(base::specs::Range::within))]
 pub(crate) fn is_continuation(b: u8) -> bool
     ensures { result ≡ is_continuation b }
 {
-    (0x80 <= b) & (b <= 0xbf)
+    matches!(b, 0x80..=0xbf)
 }
 
 fn of_one(b: u8, c: u8) -> bool
@@ -17,14 +20,14 @@ fn of_one(b: u8, c: u8) -> bool
 fn of_two(b: u8, c: u8, d: u8) -> bool
     ensures { result ≡ of_two b c d }
 {
-    (0xc2 <= b) & (b <= 0xdf) & is_continuation(c) & !is_continuation(d)
+    in_range(0xc2, 0xdf, b) & is_continuation(c) & !is_continuation(d)
 }
 
 // After E0 lower bytes would be an overlong form, after ED higher ones surrogates.
 fn of_three(b: u8, c: u8, d: u8, e: u8) -> bool
     ensures { result ≡ of_three b c d e }
 {
-    let first = (0xe0 <= b) & (b <= 0xef);
+    let first = in_range(0xe0, 0xef, b);
     let second = ((b != 0xe0) | (0xa0 <= c)) & ((b != 0xed) | (c <= 0x9f));
     first & second & is_continuation(c) & is_continuation(d) & !is_continuation(e)
 }
@@ -45,10 +48,8 @@ fn whole_block(s: &[u8], at: usize) -> bool
     ensures { result ≡ all_whole s.now at 16 }
 {
     let mut all = true;
-    let mut i = 0;
-    while i < 16 {
+    for i in 0..16 {
         all = all & is_whole(s, at + i);
-        i += 1;
     }
     all
 }
@@ -72,14 +73,12 @@ fn last_start(s: &[u8], at: usize, end: usize) -> usize
     requires { (at ≤ end) × (end < length s.now) }
     ensures { LastStart s.now at end result }
 {
-    let mut start = end;
-    while at < start {
+    for start in (at + 1..end + 1).rev() {
         if !is_continuation(s[start]) {
             return start;
         }
-        start -= 1;
     }
-    start
+    at
 }
 
 // The end of sequences from `at` on: of those that start in such blocks, all but the last.

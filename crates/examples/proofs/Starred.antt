@@ -116,7 +116,7 @@ unfolding
     unicode-scalar.is_scalar_value unicode-scalar.scalar_of unicode-scalar.scalar_at unicode-scalar.encode
     unicode-well-formed.in_range unicode-well-formed.fits unicode-well-formed.sequence_in unicode-well-formed.sequence_at unicode-well-formed.ill_formed_from
     record-kind.integer_kind record-kind.scalar_kind record-kind.kind_of
-    record-name.letter record-name.name_byte record-name.all record-name.valid_name record-name.lower record-name.same_name
+    record-name.letter record-name.name_byte record-name.valid_name record-name.lower record-name.same_name
     record-record.record_at record-record.records
     record-reserved.reserved_words record-reserved.among record-reserved.is_reserved
     record-write.little_endian record-write.stored record-write.write

@@ -1,19 +1,18 @@
 -- Calls of conjoin over the sample table, with what they return and the buffer after them: 02 Q-7.
-use Rattle.std.specs.Prelude.{ℕ, zero, suc, List, [], ◌∷◌, ◌++◌, length, replicate}
+use Rattle.std.specs.Prelude.{ℕ, zero, suc, List, [], ◌∷◌, ◌++◌, length, replicate, Err, Ok, Result}
 use Rattle.base.specs.Ascii.{bytes}
 use Rattle.table.specs.Sample.{sample_table}
-use Rattle.conjunction.specs.declared.refusal.Conjoined.{Conjoined}
-use Rattle.conjunction.specs.declared.refusal.Conjoined.TheVariants as conjoined
 use Rattle.conjunction.specs.Conjoin.{number_of, query_of, conjoin, buffer_after}
+use Rattle.conjunction.specs.declared.refusal.ConjoinRefusal.{ConjoinRefusal}
 
 -- in 02's words: the text's length, or a refusal by its number and place, and which query it is about, 0 for neither
 pub data Outcome : Type 0 where
   written : (length : ℕ) → Outcome
   refused : (number place query : ℕ) → Outcome
 
-abbrev pub outcome_of : Conjoined → Outcome
-outcome_of (conjoined.Length n) = written n
-outcome_of (conjoined.Refused r) = refused (number_of r.cause) r.place (query_of r.cause)
+abbrev pub outcome_of : Result ℕ ConjoinRefusal → Outcome
+outcome_of (Ok n) = written n
+outcome_of (Err r) = refused (number_of r.cause) r.place (query_of r.cause)
 
 pub record Call : Type 0 where
   pub first : List ℕ

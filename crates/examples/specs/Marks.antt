@@ -1,21 +1,21 @@
 -- Calls of mark over the sample table, with what they return and the marks after them: 01 "A fan to try" and its instance, then an empty one.
-use Rattle.std.specs.Prelude.{ℕ, List, [], ◌∷◌, ◌++◌, length}
+use Rattle.std.specs.Prelude.{ℕ, List, [], ◌∷◌, ◌++◌, length, Err, Ok, Result}
 use Rattle.base.specs.Ascii.{bytes}
 use Rattle.record.specs.Write.{write}
 use Rattle.table.specs.Sample.{sample_table}
 use Rattle.instance.specs.Sample.{sample_instance}
-use Rattle.mark.specs.declared.refusal.Marked.{Marked}
-use Rattle.mark.specs.declared.refusal.Marked.TheVariants as marked
 use Rattle.mark.specs.Mark.{number_of, mark, marks_after}
+use Rattle.run.specs.declared.totals.Totals.{Totals}
+use Rattle.mark.specs.declared.refusal.MarkRefusal.{MarkRefusal}
 
 -- in 01's words: the three totals, or a refusal by its number and place
 pub data Outcome : Type 0 where
   totals : (included excluded failed : ℕ) → Outcome
   refused : (number place : ℕ) → Outcome
 
-abbrev pub outcome_of : Marked → Outcome
-outcome_of (marked.Totals x) = totals x.included x.excluded x.failed
-outcome_of (marked.Refused r) = refused (number_of r.cause) r.place
+abbrev pub outcome_of : Result Totals MarkRefusal → Outcome
+outcome_of (Ok x) = totals x.included x.excluded x.failed
+outcome_of (Err r) = refused (number_of r.cause) r.place
 
 pub record Call : Type 0 where
   pub query : List ℕ

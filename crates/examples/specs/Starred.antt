@@ -1,15 +1,14 @@
 -- 01 "A fan to try": every example on a line that has a star, with what check and evaluate say of it over the sample's table and instance.
-use Rattle.std.specs.Prelude.{ℕ, List, [], ◌∷◌}
+use Rattle.std.specs.Prelude.{ℕ, List, [], ◌∷◌, Err, Ok, Result}
 use Rattle.base.specs.Ascii.{bytes}
 use Rattle.table.specs.Sample.{sample_table}
 use Rattle.instance.specs.Sample.{sample_instance}
 use Rattle.filter.specs.Refusal.{number_of}
 use Rattle.filter.specs.Check.{check}
 use Rattle.filter.specs.Evaluate.{evaluate}
-use Rattle.filter.specs.declared.refusal.Checked.{Checked}
-use Rattle.filter.specs.declared.refusal.Checked.TheVariants as checked
 use Rattle.filter.specs.declared.refusal.Answer.{Answer}
 use Rattle.filter.specs.declared.refusal.Answer.TheVariants as answer
+use Rattle.filter.specs.declared.refusal.Refusal.{Refusal}
 
 -- in 01's words: a refusal by its number and place
 pub data Outcome : Type 0 where
@@ -18,14 +17,14 @@ pub data Outcome : Type 0 where
   excluded : (steps : ℕ) → Outcome
   refused : (number place : ℕ) → Outcome
 
-abbrev pub check_outcome : Checked → Outcome
-check_outcome checked.Accepted = accepted
-check_outcome (checked.Refused r) = refused (number_of r.cause) r.place
+abbrev pub check_outcome : Result (Unit {0}) Refusal → Outcome
+check_outcome (Ok tt) = accepted
+check_outcome (Err r) = refused (number_of r.cause) r.place
 
-abbrev pub answer_outcome : Answer → Outcome
-answer_outcome (answer.Included n) = included n
-answer_outcome (answer.Excluded n) = excluded n
-answer_outcome (answer.Refused r) = refused (number_of r.cause) r.place
+abbrev pub answer_outcome : Result Answer Refusal → Outcome
+answer_outcome (Ok (answer.Included n)) = included n
+answer_outcome (Ok (answer.Excluded n)) = excluded n
+answer_outcome (Err r) = refused (number_of r.cause) r.place
 
 -- check, then evaluate
 abbrev pub outcomes_in : (table instance : List ℕ) → (query : List ℕ) → List Outcome

@@ -1,21 +1,21 @@
 -- Calls of watch over the sample table, with what they return and the marks after them: 02 Q-4 on 01's instance, one that doesn't conform, and 01's again.
-use Rattle.std.specs.Prelude.{ℕ, List, [], ◌∷◌, ◌++◌, length}
+use Rattle.std.specs.Prelude.{ℕ, List, [], ◌∷◌, ◌++◌, length, Err, Ok, Result}
 use Rattle.base.specs.Ascii.{bytes}
 use Rattle.record.specs.Write.{write}
 use Rattle.table.specs.Sample.{sample_table}
 use Rattle.instance.specs.Sample.{sample_instance}
-use Rattle.watch.specs.declared.refusal.Watched.{Watched}
-use Rattle.watch.specs.declared.refusal.Watched.TheVariants as watched
 use Rattle.watch.specs.Watch.{number_of, watch, marks_after}
+use Rattle.watch.specs.declared.refusal.WatchTotals.{WatchTotals}
+use Rattle.watch.specs.declared.refusal.WatchRefusal.{WatchRefusal}
 
 -- in 02's words: the two totals, or a refusal by its number and place
 pub data Outcome : Type 0 where
   totals : (ones zeros : ℕ) → Outcome
   refused : (number place : ℕ) → Outcome
 
-abbrev pub outcome_of : Watched → Outcome
-outcome_of (watched.Totals x) = totals x.ones x.zeros
-outcome_of (watched.Refused r) = refused (number_of r.cause) r.place
+abbrev pub outcome_of : Result WatchTotals WatchRefusal → Outcome
+outcome_of (Ok x) = totals x.ones x.zeros
+outcome_of (Err r) = refused (number_of r.cause) r.place
 
 pub record Call : Type 0 where
   pub table : List ℕ

@@ -5,9 +5,8 @@ ghost use Rattle.std.specs.Prelude.{◌≡◌};
 ghost use Rattle.fault_text.specs.FaultText.{shows_table, shows_query, unless_past, shown_of, fault_text};
 
 // Which of the two texts is shown.
-#[derive(Drop)]
+#[derive(Clone, Copy, PartialEq, Eq)]
 pub enum Shown {
-    Nothing,
     Query,
     Table,
 }
@@ -15,44 +14,51 @@ pub enum Shown {
 fn shows_table(number: usize) -> bool
     ensures { result ≡ shows_table number }
 {
-    (number == 2) | (number == 3)
+    matches!(number, 2 | 3)
 }
 
 fn shows_query(number: usize) -> bool
     ensures { result ≡ shows_query number }
 {
-    (1 <= number) & (number <= 25)
+    matches!(number, 1..=25)
 }
 
-fn unless_past(place: usize, length: usize, text: Shown) -> Shown
+fn unless_past(place: usize, length: usize, text: Option<Shown>) -> Option<Shown>
     ensures { result ≡ unless_past place length text }
 {
     if length < place {
-        return Shown::Nothing;
+        return None;
     }
     text
 }
 
 // The choice needs the lengths of the texts alone.
-pub fn shown_of(query_length: usize, table_length: usize, number: usize, place: usize) -> Shown
+#[tactic(auto, unfolding(crate::specs::FaultText::shown_of))]
+pub fn shown_of(
+    query_length: usize,
+    table_length: usize,
+    number: usize,
+    place: usize,
+) -> Option<Shown>
     ensures { result ≡ shown_of query_length table_length number place }
 {
     if shows_table(number) {
-        return unless_past(place, table_length, Shown::Table);
+        return unless_past(place, table_length, Some(Shown::Table));
     }
     if shows_query(number) {
-        return unless_past(place, query_length, Shown::Query);
+        return unless_past(place, query_length, Some(Shown::Query));
     }
-    Shown::Nothing
+    None
 }
 
 // What a refusal with this number and place shows, of the query or of the table that were refused.
+#[tactic(auto, using(crate::proofs::Laws::query_inside, crate::proofs::Laws::table_inside, crate::proofs::Laws::nothing_shown, crate::proofs::Laws::query_shown, crate::proofs::Laws::table_shown))]
 pub fn fault_text<'a>(query: &'a [u8], table: &'a [u8], number: usize, place: usize) -> &'a [u8]
     ensures { result.now ≡ fault_text query.now table.now number place }
 {
     match shown_of(query.len(), table.len(), number, place) {
-        Shown::Nothing => &query[..0],
-        Shown::Query => &query[place..],
-        Shown::Table => &table[place..],
+        None => &query[..0],
+        Some(Shown::Query) => &query[place..],
+        Some(Shown::Table) => &table[place..],
     }
 }

@@ -1,5 +1,6 @@
 -- The check of a comparison and its meaning in any instance agree: both pass, or both name the same cause at the same place. The two are written apart; here
 -- each form of either side is shown to come to the same.
+use Rattle.std.specs.Prelude.{Option as Optional, None, Some}
 use Prim.Native.Nat.{ℕ}
 use mathlib.Core.Path.{◌≡◌, refl}
 use mathlib.Core.List.{List, [], ◌∷◌}
@@ -11,8 +12,7 @@ use Rattle.record.specs.declared.kind.Family.{Family}
 use Rattle.record.specs.declared.kind.Family.TheVariants as family
 use Rattle.record.specs.declared.kind.Kind.{Kind}
 use Rattle.record.specs.declared.kind.Kind.TheVariants.{Unknown, Scalar, Array}
-use Rattle.table.specs.declared.lookup.Found.{Found}
-use Rattle.table.specs.declared.lookup.Found.TheVariants as found
+use Rattle.table.specs.declared.lookup.Property as lookup
 use Rattle.table.specs.Table.{is_known}
 use Rattle.pattern.specs.Reading.{is_some}
 use Rattle.pattern.specs.Regex.{Regex}
@@ -22,8 +22,6 @@ use Rattle.terminal.specs.Terminal.{equality}
 use Rattle.terminal.specs.declared.quantifier.Quantifier.{Quantifier}
 use Rattle.terminal.specs.declared.quantifier.Quantifier.TheVariants.{Single, Any, Every}
 use Rattle.syntax.specs.declared.path.Path.{Path}
-use Rattle.syntax.specs.declared.path.Index.{Index}
-use Rattle.syntax.specs.declared.path.Index.TheVariants.{Whole, At}
 use Rattle.syntax.specs.declared.operation.Operation.{Operation}
 use Rattle.syntax.specs.declared.operation.Operation.TheVariants.{Compare, Like, NotLike}
 use Rattle.syntax.specs.declared.left_side.LeftSide.{LeftSide}
@@ -33,8 +31,6 @@ use Rattle.syntax.specs.declared.comparison.Comparison.{Comparison}
 use Rattle.instance.specs.Value.{ScalarValue, Value, Entry, absent, property}
 use Rattle.operand.specs.declared.cause.Cause.{Cause}
 use Rattle.operand.specs.declared.cause.Cause.TheVariants as cause
-use Rattle.operand.specs.declared.index.IndexRead.{IndexRead}
-use Rattle.operand.specs.declared.index.IndexRead.TheVariants.{Reads, TooLarge}
 use Rattle.operand.specs.Named.{named}
 use Rattle.operand.specs.Index.{index_of}
 use Rattle.operand.specs.LiteralReading.{LiteralReading, misfit, out_of_range, malformed, reads, read_literal}
@@ -113,21 +109,21 @@ data LeftFits : Shape → Verdict → Left → Type 0 where
   whole : {xs : test.Array} → LeftFits check.whole passes (meaning.Left.many xs)
   each : {any : Bool} {xs : test.Array} → LeftFits check.each passes (meaning.each any xs)
 
-index_fits : (p : ℕ) (r : IndexRead) (xs : test.Array) → IndexFits (check_read r p) (indexed_by p r xs)
-index_fits p (Reads n) xs = good
-index_fits p TooLarge xs = fault
+index_fits : (p : ℕ) (r : Optional ℕ) (xs : test.Array) → IndexFits (check_read r p) (indexed_by p r xs)
+index_fits p (Some n) xs = good
+index_fits p None xs = fault
 
-scalar_left : (q : List ℕ) (k : Quantifier) (i : Index) (x : Option ScalarValue) → LeftFits (left_shape k false i) (check_left_index q k i) (left_scalar k i x)
+scalar_left : (q : List ℕ) (k : Quantifier) (i : Optional Token) (x : Option ScalarValue) → LeftFits (left_shape k false i) (check_left_index q k i) (left_scalar k i x)
 unfolding left_shape shape_of check_left_index check_index left_scalar
-scalar_left q Single Whole x = one good
-scalar_left q Single (At i) x = unfit
+scalar_left q Single None x = one good
+scalar_left q Single (Some i) x = unfit
 scalar_left q Any i x = unfit
 scalar_left q Every i x = unfit
 
-array_left : (q : List ℕ) (k : Quantifier) (i : Index) (xs : test.Array) → LeftFits (left_shape k true i) (check_left_index q k i) (left_array q k i xs)
+array_left : (q : List ℕ) (k : Quantifier) (i : Optional Token) (xs : test.Array) → LeftFits (left_shape k true i) (check_left_index q k i) (left_array q k i xs)
 unfolding left_shape shape_of check_left_index check_index left_array
-array_left q Single Whole xs = whole
-array_left q Single (At i) xs = one (index_fits i.start (index_of q i) xs)
+array_left q Single None xs = whole
+array_left q Single (Some i) xs = one (index_fits i.start (index_of q i) xs)
 array_left q Any i xs = each
 array_left q Every i xs = each
 
@@ -241,10 +237,10 @@ of_row_law : {A : Type 0} (b : Bool) (fl : Verdict) (r : Read A) → ReadFits tr
 of_row_law true fl r g = g
 of_row_law false fl r g = other
 
-indexed_fits : (p : ℕ) (r : IndexRead) (xs : test.Array) → ReadFits true (first (check_read r p) (first passes passes)) (indexed_by p r xs)
+indexed_fits : (p : ℕ) (r : Optional ℕ) (xs : test.Array) → ReadFits true (first (check_read r p) (first passes passes)) (indexed_by p r xs)
 unfolding first
-indexed_fits p (Reads n) xs = good
-indexed_fits p TooLarge xs = fault
+indexed_fits p (Some n) xs = good
+indexed_fits p None xs = fault
 
 -- what the check and the meaning see of a path's property
 pub data Seen : Kind → Entry → Type 0 where
@@ -258,25 +254,25 @@ Sees q t env = (p : Path) → Seen (kind_named q t p) (env p)
 placed_seen : (q t i : List ℕ) (env : Path → Entry) → Placed q t i env → Sees q t env
 placed_seen q t i env w p = go (named q t p) refl
   where
-    go : (x : Found) → named q t p ≡ x → Seen (kind_found x) (env p)
-    go found.Absent e = rw (w.unnamed p e) unseen
-    go (found.Property n k) e = rw (w.entry p n k e) there
+    go : (x : Optional lookup.Property) → named q t p ≡ x → Seen (kind_found x) (env p)
+    go None e = rw (w.unnamed p e) unseen
+    go (Some x) e = rw (w.entry p x.number x.kind e) there
 
 module _ (f : Family) (q : List ℕ) (place : ℕ) where
-  abbrev PropertyFits : Index → Kind → Right → Type 0
+  abbrev PropertyFits : Optional Token → Kind → Right → Type 0
   PropertyFits i k r =
       RightFits f (demand (is_known k) cause.Name place) (shape_of (is_array k) i) (row_is f k) (is_one (shape_of (is_array k) i) && has_order f)
       (first (check_index q i) (first passes passes)) r
 
-  kind_fits : (i : Index) (k : Kind) (v : Value) → PropertyFits i k (right_kind f q place i k v)
+  kind_fits : (i : Optional Token) (k : Kind) (v : Value) → PropertyFits i k (right_kind f q place i k v)
   unfolding demand shape_of check_index first right_kind right_scalar right_array ordered
   kind_fits i Unknown v = missing
-  kind_fits Whole (Scalar t) v = one (of_row_law (same_row f t.family) passes (value (as_scalar v)) good)
-  kind_fits (At i) (Scalar t) v = unfit
-  kind_fits Whole (Array e t) v = whole (of_row_law (same_row f t.family) passes (value (as_array v)) good)
-  kind_fits (At i) (Array e t) v = one (of_row_law (same_row f t.family) _ _ (indexed_fits i.start (index_of q i) (as_array v)))
+  kind_fits None (Scalar t) v = one (of_row_law (same_row f t.family) passes (value (as_scalar v)) good)
+  kind_fits (Some i) (Scalar t) v = unfit
+  kind_fits None (Array e t) v = whole (of_row_law (same_row f t.family) passes (value (as_array v)) good)
+  kind_fits (Some i) (Array e t) v = one (of_row_law (same_row f t.family) _ _ (indexed_fits i.start (index_of q i) (as_array v)))
 
-  property_fits : (i : Index) (k : Kind) (e : Entry) → Seen k e → PropertyFits i k (right_property f q place i e)
+  property_fits : (i : Optional Token) (k : Kind) (e : Entry) → Seen k e → PropertyFits i k (right_property f q place i e)
   unfolding right_property demand
   property_fits i k absent unseen = missing
   property_fits i k (property n v) there = kind_fits i (kind_of n) v

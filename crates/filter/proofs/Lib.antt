@@ -3,6 +3,7 @@ pub mod Size
 pub mod QueryAgree
 pub mod Noted
 pub mod Demand3
+pub mod Returned
 pub mod Laws
 pub mod Corollaries
 pub mod Paired

@@ -1,12 +1,11 @@
 -- The check of a whole query and its meaning agree: an induction over the comparisons, from the agreement of one (proofs/Agree).
+use Rattle.std.specs.Prelude.{Err, Ok, Result}
 use Prim.Native.Nat.{ℕ, ◌+◌, ◌≤◌}
 use mathlib.Core.Path.{◌≡◌, refl, ap, subst}
 use mathlib.Core.List.{List}
 use mathlib.Core.Bool.{Bool, false}
 use native.Mathlib.Omega.{arith}
-use Rattle.instance.specs.Fault.{conformity}
-use Rattle.instance.specs.declared.conform.Conformity.{Conformity}
-use Rattle.instance.specs.declared.conform.Conformity.TheVariants.{Conforming}
+use Rattle.instance.specs.Fault.{Conformity, conforming, conformity}
 use Rattle.syntax.specs.declared.comparison.Comparison.{Comparison}
 use Rattle.query_text.specs.Query.{Comparisons, only, more}
 use Rattle.query_text.specs.Tree.{tree, holds}
@@ -17,12 +16,10 @@ use Rattle.filter.specs.Check.{Verdict, passes, breaks, first, check_comparison,
 use Rattle.filter.specs.Meaning.{truth_of, steps_of, reads_of, QueryMeaning, failing, truthful, failure, unless_failing, query_meaning, query_steps, query_bound}
 use Rattle.filter.specs.Evaluate.{meant_in, answer_if, answer_of, evaluate_call, evaluate, steps_call, steps, bound_call, bound}
 use Rattle.filter.specs.Noted.{meant_noted, answer_call, evaluate_noted}
-use Rattle.filter.specs.declared.refusal.Checked.{Checked}
-use Rattle.filter.specs.declared.refusal.Checked.TheVariants as checked
 use Rattle.filter.specs.declared.refusal.Answer.{Answer}
-use Rattle.filter.specs.declared.refusal.Answer.TheVariants.{Refused}
 use Rattle.filter.proofs.Agree.{Agrees, comparison_agrees, noted_agrees}
 use Rattle.filter.proofs.Size.{steps_reads}
+use Rattle.filter.specs.declared.refusal.Refusal.{Refusal}
 
 -- a query: the check passes and nothing fails, so that `w` stands; or the query fails with the check's cause and place
 abbrev pub QueryAgrees : Verdict → (r w : QueryMeaning) → Type 0
@@ -43,9 +40,9 @@ last_agrees (breaks c p) (means x) w a = absurd a
 last_agrees (breaks c p) (fails d o) w a = rw (a.0, a.1) refl
 
 -- what a call comes to: its refusal by the check, or what a conformity makes of a truth value and the steps
-abbrev pub Tied : Conformity → Checked → Answer → Bool → ℕ → Type 0
-Tied k checked.Accepted a b n = a ≡ answer_if k b n
-Tied k (checked.Refused r) a b n = a ≡ Refused r
+abbrev pub Tied : Conformity → Result (Unit {0}) Refusal → Result Answer Refusal → Bool → ℕ → Type 0
+Tied k (Ok tt) a b n = a ≡ answer_if k b n
+Tied k (Err r) a b n = a ≡ Err r
 
 -- the truth of a call's comparisons
 abbrev pub truth_call : (Comparison → Meant) → Call → Bool
@@ -80,13 +77,13 @@ module _ (q t i : List ℕ) where
   pub tied : Tied (conformity t i) (check q t) (evaluate q t i) (truth_call (meant_in q t i) (call_of q t)) (steps q t i)
   unfolding check steps
   tied =
-      subst (λ (a : Answer). Tied (conformity t i) (check_call q t (call_of q t)) a (truth_call (meant_in q t i) (call_of q t)) (steps_call (meant_in q t i) (call_of q t))) evaluate_answer
+      subst (λ (a : Result Answer Refusal). Tied (conformity t i) (check_call q t (call_of q t)) a (truth_call (meant_in q t i) (call_of q t)) (steps_call (meant_in q t i) (call_of q t))) evaluate_answer
       (call_tied q t (meant_in q t i) (comparison_agrees q t i) (conformity t i) (call_of q t))
 
   pub noted_tied : (notes : List ℕ)
-      → Tied Conforming (check q t) (evaluate_noted q t i notes) (truth_call (meant_noted q t i notes) (call_of q t)) (steps_call (meant_noted q t i notes) (call_of q t))
+      → Tied conforming (check q t) (evaluate_noted q t i notes) (truth_call (meant_noted q t i notes) (call_of q t)) (steps_call (meant_noted q t i notes) (call_of q t))
   unfolding check evaluate_noted
-  noted_tied notes = call_tied q t (meant_noted q t i notes) (noted_agrees q t i notes) Conforming (call_of q t)
+  noted_tied notes = call_tied q t (meant_noted q t i notes) (noted_agrees q t i notes) conforming (call_of q t)
 
   -- the steps are at most the bound, conforming or not
   call_below : (c : Call) → steps_call (meant_in q t i) c ≤ bound_call (meant_in q t i) c

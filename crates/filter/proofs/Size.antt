@@ -1,4 +1,5 @@
 -- A comparison reads at most as much as the instance has bytes, so that the steps of 64 of them are far from 2^64.
+use Rattle.std.specs.Prelude.{Option as Optional, None, Some}
 use Prim.Native.Nat.{ℕ, ◌+◌, ◌≤◌}
 use mathlib.Core.Path.{◌≡◌, refl, subst}
 use mathlib.Core.List.{List}
@@ -12,12 +13,9 @@ use Rattle.record.specs.declared.kind.Family.{Family}
 use Rattle.record.specs.declared.kind.ValueType.{ValueType}
 use Rattle.record.specs.declared.kind.Kind.{Kind}
 use Rattle.record.specs.declared.kind.Kind.TheVariants.{Unknown, Scalar, Array}
-use Rattle.table.specs.declared.lookup.Found.{Found}
-use Rattle.table.specs.declared.lookup.Found.TheVariants as found
+use Rattle.table.specs.declared.lookup.Property.{Property}
 use Rattle.terminal.specs.declared.quantifier.Quantifier.{Quantifier}
 use Rattle.terminal.specs.declared.quantifier.Quantifier.TheVariants.{Single, Any, Every}
-use Rattle.syntax.specs.declared.path.Index.{Index}
-use Rattle.syntax.specs.declared.path.Index.TheVariants.{Whole, At}
 use Rattle.syntax.specs.declared.path.Path.{Path}
 use Rattle.syntax.specs.declared.operation.Operation.{Operation}
 use Rattle.syntax.specs.declared.left_side.LeftSide.{LeftSide}
@@ -26,11 +24,8 @@ use Rattle.instance.specs.Start.{start_of}
 use Rattle.instance.specs.Value.{ScalarValue, Entry, value_at}
 use Rattle.operand.specs.Named.{named}
 use Rattle.operand.specs.Index.{index_of}
-use Rattle.operand.specs.declared.index.IndexRead.{IndexRead}
-use Rattle.operand.specs.declared.index.IndexRead.TheVariants.{Reads, TooLarge}
 use Rattle.place.specs.declared.Source.TheVariants as source
-use Rattle.place.specs.declared.Body.{Body}
-use Rattle.place.specs.declared.Body.TheVariants as body
+use Rattle.place.specs.declared.Part.{Part}
 use Rattle.place.specs.Place.{body_at, body_value}
 use Rattle.like.specs.Like.{as_text, size}
 use Rattle.predicate.specs.Test.{Test, values, arrays, search, reads}
@@ -41,6 +36,7 @@ use Rattle.judge.proofs.Sides.{element_start}
 use Rattle.judge.proofs.RightSides.{scalar_of_law, array_of}
 use Rattle.judge.proofs.Named.{Placed}
 use Rattle.filter.specs.Meaning.{steps_of, reads_of}
+use Rattle.token.specs.declared.Token.{Token}
 
 -- what a left side reads at most
 abbrev Few : ℕ → Left → Type 0
@@ -95,28 +91,28 @@ module _ (n : ℕ) (a : LeftSide) (o : Operation) (f : Family) where
   meet_few (meaning.each any xs) (meaning.pattern r) h = omega arith
 
 -- the left side's values are the instance's
-scalar_few : (n : ℕ) (k : Quantifier) (x : Index) (v : Option ScalarValue) → size (as_text v) ≤ n → Few n (left_scalar k x v)
+scalar_few : (n : ℕ) (k : Quantifier) (x : Optional Token) (v : Option ScalarValue) → size (as_text v) ≤ n → Few n (left_scalar k x v)
 unfolding left_scalar
-scalar_few n Single Whole v h = h
-scalar_few n Single (At i) v h = tt
+scalar_few n Single None v h = h
+scalar_few n Single (Some i) v h = tt
 scalar_few n Any x v h = tt
 scalar_few n Every x v h = tt
 
-element_few : (t : ValueType) (i : List ℕ) (b : Body) (n : ℕ) → size (as_text (element_of (body_value t i b) n)) ≤ length i
+element_few : (t : ValueType) (i : List ℕ) (b : Optional Part) (n : ℕ) → size (as_text (element_of (body_value t i b) n)) ≤ length i
 unfolding body_value element_of as_text size
-element_few t i body.Null n = omega arith
-element_few t i (body.At start len) n =
-    subst (λ (v : Option ScalarValue). size (as_text v) ≤ length i) (element_start t (part i start len) n)
-    (spot_few t i i (record { source = source.Part start len; place = start_of (part i start len) n }) tt)
+element_few t i None n = omega arith
+element_few t i (Some x) n =
+    subst (λ (v : Option ScalarValue). size (as_text v) ≤ length i) (element_start t (part i x.start x.length) n)
+    (spot_few t i i (record { source = source.Part x; place = start_of (part i x.start x.length) n }) tt)
 
-indexed_few : (t : ValueType) (i : List ℕ) (b : Body) (p : ℕ) (r : IndexRead) → Few (length i) (meaning.Left.one (indexed_by p r (body_value t i b)))
-indexed_few t i b p (Reads n) = element_few t i b n
-indexed_few t i b p TooLarge = tt
+indexed_few : (t : ValueType) (i : List ℕ) (b : Optional Part) (p : ℕ) (r : Optional ℕ) → Few (length i) (meaning.Left.one (indexed_by p r (body_value t i b)))
+indexed_few t i b p (Some n) = element_few t i b n
+indexed_few t i b p None = tt
 
-array_few : (t : ValueType) (q i : List ℕ) (k : Quantifier) (x : Index) (b : Body) → Few (length i) (left_array q k x (body_value t i b))
+array_few : (t : ValueType) (q i : List ℕ) (k : Quantifier) (x : Optional Token) (b : Optional Part) → Few (length i) (left_array q k x (body_value t i b))
 unfolding left_array
-array_few t q i Single Whole b = body_few t i b
-array_few t q i Single (At y) b = indexed_few t i b y.start (index_of q y)
+array_few t q i Single None b = body_few t i b
+array_few t q i Single (Some y) b = indexed_few t i b y.start (index_of q y)
 array_few t q i Any x b = body_few t i b
 array_few t q i Every x b = body_few t i b
 
@@ -138,10 +134,10 @@ module _ (q t i : List ℕ) (env : Path → Entry) (w : Placed q t i env) (c : C
       meet_few (length i) c.left c.operation y.family _ _
       (rw (array_of kind i place element y e) (array_few y q i c.left.quantifier c.left.index (body_at i place)))
 
-  entry_few : (x : Found) → named q t c.left.path ≡ x → reads_of (meant_as q env c (env c.left.path)) ≤ length i
+  entry_few : (x : Optional Property) → named q t c.left.path ≡ x → reads_of (meant_as q env c (env c.left.path)) ≤ length i
   unfolding meant_as reads_of
-  entry_few found.Absent e = rw (w.unnamed c.left.path e) (omega arith)
-  entry_few (found.Property n k) e = rw (w.entry c.left.path n k e) (kind_few k (w.place n) (kind_of k) refl)
+  entry_few None e = rw (w.unnamed c.left.path e) (omega arith)
+  entry_few (Some x) e = rw (w.entry c.left.path x.number x.kind e) (kind_few x.kind (w.place x.number) (kind_of x.kind) refl)
 
   reads_few : reads_of (meaning.meaning q env c) ≤ length i
   unfolding meaning.meaning

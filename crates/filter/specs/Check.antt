@@ -1,13 +1,12 @@
 -- The check: 01 "Kinds", and of "What can go wrong with a call" the causes in a comparison, tried in the order 20, 22, 21, 23, 24, 25, "leftmost first".
 -- It goes over the query's syntax and the table, and knows nothing of instances.
-use Rattle.std.specs.Prelude.{ℕ, List, [], ◌∷◌, Bool, true, false, not, ◌&&◌, ◌||◌}
+use Rattle.std.specs.Prelude.{ℕ, List, [], ◌∷◌, ◌≡◌, Bool, true, false, not, ◌&&◌, ◌||◌, Err, None, Ok, Option, Result, Some}
 use Rattle.record.specs.Kind.{kind_of, same_row}
 use Rattle.record.specs.declared.kind.Family.{Family}
 use Rattle.record.specs.declared.kind.Family.TheVariants as family
 use Rattle.record.specs.declared.kind.Kind.{Kind}
 use Rattle.record.specs.declared.kind.Kind.TheVariants.{Unknown, Scalar, Array}
-use Rattle.table.specs.declared.lookup.Found.{Found}
-use Rattle.table.specs.declared.lookup.Found.TheVariants as found
+use Rattle.table.specs.declared.lookup.Property as lookup
 use Rattle.table.specs.Table.{is_known}
 use Rattle.pattern.specs.Reading.{is_some}
 use Rattle.token.specs.declared.Token.{Token}
@@ -15,8 +14,6 @@ use Rattle.terminal.specs.Terminal.{equality}
 use Rattle.terminal.specs.declared.quantifier.Quantifier.{Quantifier}
 use Rattle.terminal.specs.declared.quantifier.Quantifier.TheVariants.{Single, Any, Every}
 use Rattle.syntax.specs.declared.path.Path.{Path}
-use Rattle.syntax.specs.declared.path.Index.{Index}
-use Rattle.syntax.specs.declared.path.Index.TheVariants.{Whole, At}
 use Rattle.syntax.specs.declared.operation.Operation.{Operation}
 use Rattle.syntax.specs.declared.operation.Operation.TheVariants.{Compare, Like, NotLike}
 use Rattle.syntax.specs.declared.right_side.RightSide.{RightSide}
@@ -25,8 +22,6 @@ use Rattle.syntax.specs.declared.comparison.Comparison.{Comparison}
 use Rattle.query_text.specs.Query.{Comparisons, only, more}
 use Rattle.operand.specs.declared.cause.Cause.{Cause}
 use Rattle.operand.specs.declared.cause.Cause.TheVariants as cause
-use Rattle.operand.specs.declared.index.IndexRead.{IndexRead}
-use Rattle.operand.specs.declared.index.IndexRead.TheVariants.{Reads, TooLarge}
 use Rattle.operand.specs.Named.{named}
 use Rattle.operand.specs.Index.{index_of}
 use Rattle.operand.specs.LiteralReading.{LiteralReading, misfit, out_of_range, malformed, reads, read_literal, is_null_literal}
@@ -34,8 +29,7 @@ use Rattle.operand.specs.Element.{element_tokens}
 use Rattle.operand.specs.PatternLiteral.{pattern_of}
 use Rattle.filter.specs.Refusal.{Call, refused, compares, call_of}
 use Rattle.filter.specs.declared.refusal.Cause.TheVariants as all
-use Rattle.filter.specs.declared.refusal.Checked.{Checked}
-use Rattle.filter.specs.declared.refusal.Checked.TheVariants.{Accepted, Refused}
+use Rattle.filter.specs.declared.refusal.Refusal.{Refusal}
 
 -- of a comparison: nothing is wrong, or the first cause, with its place
 pub data Verdict : Type 0 where
@@ -57,9 +51,9 @@ each_token f [] = passes
 each_token f (t ∷ ts) = first (f t) (each_token f ts)
 
 -- ---- 20, name not in table
-abbrev pub kind_found : Found → Kind
-kind_found (found.Property number kind) = kind_of kind
-kind_found found.Absent = Unknown
+abbrev pub kind_found : Option lookup.Property → Kind
+kind_found (Some p) = kind_of p.kind
+kind_found None = Unknown
 
 -- the kind of the property that a path names
 abbrev pub kind_named : (query table : List ℕ) → Path → Kind
@@ -88,13 +82,13 @@ pub data Shape : Type 0 where
   pattern : Shape
   unfit : Shape
 
-unfoldable pub shape_of : (array : Bool) → Index → Shape
-shape_of false Whole = one
-shape_of false (At i) = unfit
-shape_of true Whole = whole
-shape_of true (At i) = one
+unfoldable pub shape_of : (array : Bool) → Option Token → Shape
+shape_of false None = one
+shape_of false (Some i) = unfit
+shape_of true None = whole
+shape_of true (Some i) = one
 
-unfoldable pub left_shape : Quantifier → (array : Bool) → Index → Shape
+unfoldable pub left_shape : Quantifier → (array : Bool) → Option Token → Shape
 left_shape Single a i = shape_of a i
 left_shape Any true i = each
 left_shape Any false i = unfit
@@ -174,16 +168,16 @@ orders Like = false
 orders NotLike = false
 
 -- ---- 23, literal or index out of range
-abbrev pub check_read : IndexRead → (place : ℕ) → Verdict
-check_read (Reads n) p = passes
-check_read TooLarge p = breaks cause.Range p
+abbrev pub check_read : Option ℕ → (place : ℕ) → Verdict
+check_read (Some n) p = passes
+check_read None p = breaks cause.Range p
 
-unfoldable pub check_index : (query : List ℕ) → Index → Verdict
-check_index q Whole = passes
-check_index q (At i) = check_read (index_of q i) i.start
+unfoldable pub check_index : (query : List ℕ) → Option Token → Verdict
+check_index q None = passes
+check_index q (Some i) = check_read (index_of q i) i.start
 
 -- ANY and EVERY have no index, by the grammar
-unfoldable pub check_left_index : (query : List ℕ) → Quantifier → Index → Verdict
+unfoldable pub check_left_index : (query : List ℕ) → Quantifier → Option Token → Verdict
 check_left_index q Single i = check_index q i
 check_left_index q Any i = passes
 check_left_index q Every i = passes
@@ -252,14 +246,18 @@ unfoldable pub check_all : (query table : List ℕ) → Comparisons → Verdict
 check_all q t (only c) = check_comparison q t c
 check_all q t (more c j r) = first (check_comparison q t c) (check_all q t r)
 
-abbrev pub as_checked : Verdict → Checked
-as_checked passes = Accepted
-as_checked (breaks c p) = Refused (record { cause = all.Comparison c; place = p })
+abbrev pub as_checked : Verdict → Result (Unit {0}) Refusal
+as_checked passes = Ok tt
+as_checked (breaks c p) = Err (record { cause = all.Comparison c; place = p })
 
-abbrev pub check_call : (query table : List ℕ) → Call → Checked
-check_call q t (refused c p) = Refused (record { cause = c; place = p })
+abbrev pub check_call : (query table : List ℕ) → Call → Result (Unit {0}) Refusal
+check_call q t (refused c p) = Err (record { cause = c; place = p })
 check_call q t (compares l) = as_checked (check_all q t l)
 
 -- check (query, table)
-unfoldable pub check : (query table : List ℕ) → Checked
+unfoldable pub check : (query table : List ℕ) → Result (Unit {0}) Refusal
 check q t = check_call q t (call_of q t)
+
+-- what the evaluation of a query and a table asks for
+abbrev pub IsAccepted : (query table : List ℕ) → Type 0
+IsAccepted q t = check q t ≡ Ok tt

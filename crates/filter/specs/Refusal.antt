@@ -1,19 +1,16 @@
 -- 01 "What can go wrong with a call": the causes of all refusals, with 01's numbers, and what stands before a query's comparisons: 2, 3, 1, 10, 11 and 12.
-use Rattle.std.specs.Prelude.{ℕ, List}
+use Rattle.std.specs.Prelude.{ℕ, List, Err, Ok, Result}
 use Rattle.table.specs.Table as table
-use Rattle.table.specs.Table.{table_reading}
-use Rattle.table.specs.declared.validate.TableReading.{TableReading}
-use Rattle.table.specs.declared.validate.TableReading.TheVariants as table-reading
+use Rattle.table.specs.Table.{Reading, table_reading}
 use Rattle.instance.specs.Fault as instance
 use Rattle.syntax.specs.declared.fault.Fault as text-fault
-use Rattle.query_text.specs.declared.query.Verdict.{Verdict}
-use Rattle.query_text.specs.declared.query.Verdict.TheVariants as verdict
 use Rattle.query_text.specs.Text as text
 use Rattle.query_text.specs.Text.{text_verdict}
 use Rattle.query_text.specs.Query.{Comparisons, Query, bad, good, query}
 use Rattle.operand.specs.Cause as comparison
 use Rattle.filter.specs.declared.refusal.Cause.{Cause}
 use Rattle.filter.specs.declared.refusal.Cause.TheVariants.{Table, Text, Comparison, Instance}
+use Rattle.syntax.specs.declared.fault.Fault.{Fault}
 
 -- 01's number of a cause
 abbrev pub number_of : Cause → ℕ
@@ -34,14 +31,14 @@ abbrev pub call_query : Query → Call
 call_query (bad f) = call_fault f
 call_query (good l) = compares l
 
-abbrev pub call_text : (query : List ℕ) → Verdict → Call
-call_text q (verdict.Refused f) = call_fault f
-call_text q verdict.WellFormed = call_query (query q)
+abbrev pub call_text : (query : List ℕ) → Result (Unit {0}) Fault → Call
+call_text q (Err f) = call_fault f
+call_text q (Ok tt) = call_query (query q)
 
 -- the table before the query
-abbrev pub call_under : (query : List ℕ) → TableReading → Call
-call_under q (table-reading.Fault c p) = refused (Table c) p
-call_under q (table-reading.Good count) = call_text q (text_verdict q)
+abbrev pub call_under : (query : List ℕ) → Reading → Call
+call_under q (Err r) = refused (Table r.cause) r.place
+call_under q (Ok count) = call_text q (text_verdict q)
 
 unfoldable pub call_of : (query table : List ℕ) → Call
 call_of q t = call_under q (table_reading t)

@@ -2,10 +2,10 @@
 ghost use Rattle.std.specs.Prelude.{◌≡◌};
 ghost use Rattle.filter.specs.Refusal.{number_of};
 
-use instance::conform::InstanceFault;
-use operand::cause::Cause as ComparisonCause;
-use syntax::fault::Cause as TextCause;
-use table::validate::TableFault;
+use instance::conform::{InstanceFault, InstanceRefusal};
+use operand::cause::{Cause as ComparisonCause, ComparisonRefusal};
+use syntax::fault::{Cause as TextCause, Fault as TextFault};
+use table::validate::{TableFault, TableRefusal};
 
 // Of the table, of the query's text, of a comparison, of the instance.
 #[derive(Clone, Copy)]
@@ -23,18 +23,63 @@ pub struct Refusal {
     pub place: usize,
 }
 
-#[derive(Drop)]
-pub enum Checked {
-    Accepted,
-    Refused(Refusal),
+impl From<TableRefusal> for Refusal {
+    ghost use Rattle.filter.specs.declared.refusal.Cause.{Cause};
+
+    ghost from_gives = { λ t r. r ≡ record { cause = Cause.Table t.cause; place = t.place } };
+
+    fn from(t: TableRefusal) -> Refusal {
+        Refusal {
+            cause: Cause::Table(t.cause),
+            place: t.place,
+        }
+    }
 }
 
-// What an evaluation comes to; an answer with its steps.
+impl From<TextFault> for Refusal {
+    ghost use Rattle.filter.specs.declared.refusal.Cause.{Cause};
+
+    ghost from_gives = { λ f r. r ≡ record { cause = Cause.Text f.cause; place = f.place } };
+
+    fn from(f: TextFault) -> Refusal {
+        Refusal {
+            cause: Cause::Text(f.cause),
+            place: f.place,
+        }
+    }
+}
+
+impl From<ComparisonRefusal> for Refusal {
+    ghost use Rattle.filter.specs.declared.refusal.Cause.{Cause};
+
+    ghost from_gives = { λ c r. r ≡ record { cause = Cause.Comparison c.cause; place = c.place } };
+
+    fn from(c: ComparisonRefusal) -> Refusal {
+        Refusal {
+            cause: Cause::Comparison(c.cause),
+            place: c.place,
+        }
+    }
+}
+
+impl From<InstanceRefusal> for Refusal {
+    ghost use Rattle.filter.specs.declared.refusal.Cause.{Cause};
+
+    ghost from_gives = { λ i r. r ≡ record { cause = Cause.Instance i.cause; place = i.place } };
+
+    fn from(i: InstanceRefusal) -> Refusal {
+        Refusal {
+            cause: Cause::Instance(i.cause),
+            place: i.place,
+        }
+    }
+}
+
+// What an evaluation comes to, with its steps.
 #[derive(Clone, Copy)]
 pub enum Answer {
     Included(usize),
     Excluded(usize),
-    Refused(Refusal),
 }
 
 // 01's number of a cause.

@@ -11,14 +11,15 @@ ghost use Rattle.fault_text.specs.FaultText.{shown_of};
 ghost use Rattle.fql_export.specs.Answers.{refusal_of, answer_of, totals_of, watched_of, conjoined_of, part_of};
 
 use conjunction::conjoin::conjoin;
-use conjunction::refusal::{Conjoined, query_of};
+use conjunction::refusal::{ConjoinRefusal, query_of};
 use fault_text::{Shown, shown_of};
 use filter::check::check;
 use filter::evaluate::evaluate;
-use filter::refusal::{Answer, Checked, number_of};
+use filter::refusal::{Answer, Refusal, number_of};
 use mark::mark::mark;
-use mark::refusal::Marked;
-use watch::refusal::Watched;
+use mark::refusal::MarkRefusal;
+use run::totals::Totals;
+use watch::refusal::{WatchRefusal, WatchTotals};
 use watch::watch::watch;
 
 // A refusal's number and place; number 0 where there is none.
@@ -79,117 +80,107 @@ pub struct FqlPart {
     pub length: u64,
 }
 
-fn refusal_of(c: Checked) -> FqlRefusal
+#[tactic(auto, using(crate::proofs::Laws::refusal_none, crate::proofs::Laws::refusal_some))]
+fn refusal_of(c: Result<(), Refusal>) -> FqlRefusal
     ensures { result ≡ refusal_of c }
 {
     match c {
-        Checked::Accepted => FqlRefusal {
+        Ok(()) => FqlRefusal {
             number: 0,
             place: 0,
         },
-        Checked::Refused(x) => {
-            let cause = x.cause;
-            FqlRefusal {
-                number: number_of(cause) as u64,
-                place: x.place as u64,
-            }
-        }
+        Err(x) => FqlRefusal {
+            number: number_of(x.cause) as u64,
+            place: x.place as u64,
+        },
     }
 }
 
-fn answer_of(a: Answer) -> FqlAnswer
+#[tactic(auto, using(crate::proofs::Laws::answer_included, crate::proofs::Laws::answer_excluded, crate::proofs::Laws::answer_refused))]
+fn answer_of(a: Result<Answer, Refusal>) -> FqlAnswer
     ensures { result ≡ answer_of a }
 {
     match a {
-        Answer::Included(n) => FqlAnswer {
+        Ok(Answer::Included(n)) => FqlAnswer {
             number: 0,
             place: 0,
             included: 1,
             steps: n as u64,
         },
-        Answer::Excluded(n) => FqlAnswer {
+        Ok(Answer::Excluded(n)) => FqlAnswer {
             number: 0,
             place: 0,
             included: 0,
             steps: n as u64,
         },
-        Answer::Refused(x) => {
-            let cause = x.cause;
-            FqlAnswer {
-                number: number_of(cause) as u64,
-                place: x.place as u64,
-                included: 0,
-                steps: 0,
-            }
-        }
+        Err(x) => FqlAnswer {
+            number: number_of(x.cause) as u64,
+            place: x.place as u64,
+            included: 0,
+            steps: 0,
+        },
     }
 }
 
-fn totals_of(m: Marked) -> FqlTotals
+#[tactic(auto, using(crate::proofs::Laws::totals_counted, crate::proofs::Laws::totals_refused))]
+fn totals_of(m: Result<Totals, MarkRefusal>) -> FqlTotals
     ensures { result ≡ totals_of m }
 {
     match m {
-        Marked::Totals(x) => FqlTotals {
+        Ok(x) => FqlTotals {
             number: 0,
             place: 0,
             included: x.included as u64,
             excluded: x.excluded as u64,
             failed: x.failed as u64,
         },
-        Marked::Refused(x) => {
-            let cause = x.cause;
-            FqlTotals {
-                number: mark::refusal::number_of(cause) as u64,
-                place: x.place as u64,
-                included: 0,
-                excluded: 0,
-                failed: 0,
-            }
-        }
+        Err(x) => FqlTotals {
+            number: mark::refusal::number_of(x.cause) as u64,
+            place: x.place as u64,
+            included: 0,
+            excluded: 0,
+            failed: 0,
+        },
     }
 }
 
-fn watched_of(w: Watched) -> FqlWatched
+#[tactic(auto, using(crate::proofs::Laws::watched_counted, crate::proofs::Laws::watched_refused))]
+fn watched_of(w: Result<WatchTotals, WatchRefusal>) -> FqlWatched
     ensures { result ≡ watched_of w }
 {
     match w {
-        Watched::Totals(x) => FqlWatched {
+        Ok(x) => FqlWatched {
             number: 0,
             place: 0,
             ones: x.ones as u64,
             zeros: x.zeros as u64,
         },
-        Watched::Refused(x) => {
-            let cause = x.cause;
-            FqlWatched {
-                number: watch::refusal::number_of(cause) as u64,
-                place: x.place as u64,
-                ones: 0,
-                zeros: 0,
-            }
-        }
+        Err(x) => FqlWatched {
+            number: watch::refusal::number_of(x.cause) as u64,
+            place: x.place as u64,
+            ones: 0,
+            zeros: 0,
+        },
     }
 }
 
-fn conjoined_of(c: Conjoined) -> FqlConjoined
+#[tactic(auto, using(crate::proofs::Laws::conjoined_length, crate::proofs::Laws::conjoined_refused))]
+fn conjoined_of(c: Result<usize, ConjoinRefusal>) -> FqlConjoined
     ensures { result ≡ conjoined_of c }
 {
     match c {
-        Conjoined::Length(n) => FqlConjoined {
+        Ok(n) => FqlConjoined {
             number: 0,
             place: 0,
             query: 0,
             length: n as u64,
         },
-        Conjoined::Refused(x) => {
-            let cause = x.cause;
-            FqlConjoined {
-                number: conjunction::refusal::number_of(cause) as u64,
-                place: x.place as u64,
-                query: query_of(cause) as u64,
-                length: 0,
-            }
-        }
+        Err(x) => FqlConjoined {
+            number: conjunction::refusal::number_of(x.cause) as u64,
+            place: x.place as u64,
+            query: query_of(x.cause) as u64,
+            length: 0,
+        },
     }
 }
 
@@ -250,6 +241,7 @@ pub extern "C" fn fql_conjoin<'a>(
 }
 
 // The part is named and not lent: the caller holds both texts.
+#[tactic(auto, using(crate::proofs::Laws::part_none, crate::proofs::Laws::part_query, crate::proofs::Laws::part_table, fault_text::proofs::Laws::query_inside, fault_text::proofs::Laws::table_inside))]
 #[unsafe(no_mangle)]
 pub extern "C" fn fql_fault_text<'a>(
     query: &'a [u8],
@@ -260,17 +252,17 @@ pub extern "C" fn fql_fault_text<'a>(
     ensures { result ≡ part_of (shown_of (length query.now) (length table.now) number place) (length query.now) (length table.now) place }
 {
     match shown_of(query.len(), table.len(), number as usize, place as usize) {
-        Shown::Nothing => FqlPart {
+        None => FqlPart {
             source: 0,
             start: 0,
             length: 0,
         },
-        Shown::Query => FqlPart {
+        Some(Shown::Query) => FqlPart {
             source: 1,
             start: place,
             length: query.len() as u64 - place,
         },
-        Shown::Table => FqlPart {
+        Some(Shown::Table) => FqlPart {
             source: 2,
             start: place,
             length: table.len() as u64 - place,

@@ -1,43 +1,24 @@
 -- What fits property-comp is read as a comparison, but for the limit of 32 elements.
+use Rattle.std.specs.Prelude.{Err, None, Ok, Option, Result, Some}
 use Prim.Native.Nat.{ℕ, zero, suc, ◌+◌, ◌≤◌, ◌<◌}
 use mathlib.Core.Path.{◌≡◌, refl, ap}
 use mathlib.Core.Bool.{Bool, true, false, not, ◌&&◌, false≢true}
 use native.Mathlib.Omega.{arith}
-use lib.Dec.{eqb}
 use Rattle.token.specs.declared.Reserved.{Reserved}
-use Rattle.token.specs.declared.Reserved.TheVariants as Reserved
-use Rattle.token.specs.declared.Form.TheVariants.{Decimal, Binary, Hex, Real}
 use Rattle.base.specs.declared.order.Operator.{Operator}
-use Rattle.base.specs.declared.order.Operator.TheVariants.{Equal, Unequal, Less, AtMost, Greater, AtLeast}
 use Rattle.token.specs.declared.Punctuation.TheVariants.{OpenIndex, OpenList, CloseList, Comma, Dot}
 use Rattle.token.specs.declared.TokenKind.{TokenKind}
-use Rattle.token.specs.declared.TokenKind.TheVariants as TokenKind
-use Rattle.token.specs.declared.TokenKind.TheVariants.{Name, Symbol, Word, Text, Number}
+use Rattle.token.specs.declared.TokenKind.TheVariants.{Name, Symbol, Word}
 use Rattle.token.specs.declared.Token.{Token}
 use Rattle.terminal.specs.declared.quantifier.Quantifier.{Quantifier}
 use Rattle.terminal.specs.declared.quantifier.Quantifier.TheVariants.{Single, Any, Every}
-use Rattle.terminal.specs.declared.operator.Comparing.{Comparing}
-use Rattle.terminal.specs.declared.operator.Comparing.TheVariants.{By, NoOperator}
-use Rattle.terminal.specs.Terminal.{same, code, literal, literal_kind, comparing, comparing_kind, quantifying, equality}
-use Rattle.terminal.proofs.KindCodes.{kind_is, other}
+use Rattle.terminal.specs.Terminal.{same, literal, literal_kind, comparing, comparing_kind, quantifying, equality}
+use Rattle.terminal.proofs.KindCodes.{kind_is, not_kind, other}
 use Rattle.syntax.specs.declared.path.Path.{Path}
-use Rattle.syntax.specs.declared.path.PathResult.{PathResult}
-use Rattle.syntax.specs.declared.path.PathResult.TheVariants.{HasPath, NoPath}
-use Rattle.syntax.specs.declared.path.Index.TheVariants.{Whole, At}
-use Rattle.syntax.specs.declared.path.IndexResult.TheVariants.{HasIndex}
-use Rattle.syntax.specs.declared.path.ReferenceResult.{ReferenceResult}
-use Rattle.syntax.specs.declared.path.ReferenceResult.TheVariants.{HasReference, NoReference}
 use Rattle.syntax.specs.declared.left_side.LeftSide.{LeftSide}
-use Rattle.syntax.specs.declared.left_side.LeftResult.{LeftResult}
-use Rattle.syntax.specs.declared.left_side.LeftResult.TheVariants.{HasLeft, NoLeft}
 use Rattle.syntax.specs.declared.operation.Operation.{Operation}
 use Rattle.syntax.specs.declared.operation.Operation.TheVariants.{Compare, Like, NotLike}
-use Rattle.syntax.specs.declared.operation.OperationResult.TheVariants.{HasOperation}
-use Rattle.syntax.specs.declared.right_side.RightResult.{RightResult}
-use Rattle.syntax.specs.declared.right_side.RightResult.TheVariants.{HasRight, NoRight}
 use Rattle.syntax.specs.declared.fault.Cause.TheVariants.{Limit}
-use Rattle.syntax.specs.declared.comparison.ComparisonResult.{ComparisonResult}
-use Rattle.syntax.specs.declared.comparison.ComparisonResult.TheVariants.{HasComparison, NoComparison}
 use Rattle.syntax.specs.Property as GP
 use Rattle.syntax.specs.Comparison as GC
 use Rattle.syntax.specs.Scan.{Scan}
@@ -47,79 +28,46 @@ use Rattle.grammar.specs.Abnf.{Fits, one, join, left, right, none, just, stop, m
 use Rattle.grammar.specs.Limits.{repeats, element_count, elements_in}
 use Rattle.syntax.proofs.Room.{up, Roomy, room}
 use Rattle.grammar.proofs.Sound.{Ends}
+use Rattle.syntax.specs.declared.right_side.RightSide.{RightSide}
+use Rattle.syntax.specs.declared.fault.Fault.{Fault}
+use Rattle.syntax.specs.declared.comparison.Comparison.{Comparison}
 
 -- an operator is neither a dot nor a bracket
-op_codes : (k : TokenKind) → operates (comparing_kind k) ≡ true → (eqb (code k) 30 ≡ false) × (eqb (code k) 25 ≡ false)
-op_codes TokenKind.End e = absurd (false≢true e)
-op_codes TokenKind.NoToken e = absurd (false≢true e)
-op_codes Name e = absurd (false≢true e)
-op_codes (Word w) e = absurd (false≢true e)
-op_codes (Number f) e = absurd (false≢true e)
-op_codes Text e = absurd (false≢true e)
-op_codes (TokenKind.Compare Equal) e = (refl, refl)
-op_codes (TokenKind.Compare Unequal) e = (refl, refl)
-op_codes (TokenKind.Compare Less) e = (refl, refl)
-op_codes (TokenKind.Compare AtMost) e = (refl, refl)
-op_codes (TokenKind.Compare Greater) e = (refl, refl)
-op_codes (TokenKind.Compare AtLeast) e = (refl, refl)
-op_codes (Symbol m) e = absurd (false≢true e)
-
 module _ (t : Token) (e : operates (comparing t) ≡ true) where
-  op_no_dot : same t (Symbol Dot) ≡ false
-  unfolding same comparing
-  op_no_dot = (op_codes t.kind e).0
+  pub op_no_dot : same t (Symbol Dot) ≡ false
+  unfolding comparing
+  op_no_dot = not_kind (λ (k : TokenKind). operates (comparing_kind k)) t (Symbol Dot) refl e
 
-  op_no_index : same t (Symbol OpenIndex) ≡ false
-  unfolding same comparing
-  op_no_index = (op_codes t.kind e).1
+  pub op_no_index : same t (Symbol OpenIndex) ≡ false
+  unfolding comparing
+  op_no_index = not_kind (λ (k : TokenKind). operates (comparing_kind k)) t (Symbol OpenIndex) refl e
 
-operates_op : (k : Comparing) → operates k ≡ true → (o : Operator) × (k ≡ By o)
-operates_op (By o) e = (o, refl)
-operates_op NoOperator e = absurd (false≢true e)
+operates_op : (k : Option Operator) → operates k ≡ true → (o : Operator) × (k ≡ Some o)
+operates_op (Some o) e = (o, refl)
+operates_op None e = absurd (false≢true e)
 
-equates_op : (k : Comparing) → equates k ≡ true → (o : Operator) × (k ≡ By o) × (equality o ≡ true)
-equates_op (By o) e = (o, refl, e)
-equates_op NoOperator e = absurd (false≢true e)
+equates_op : (k : Option Operator) → equates k ≡ true → (o : Operator) × (k ≡ Some o) × (equality o ≡ true)
+equates_op (Some o) e = (o, refl, e)
+equates_op None e = absurd (false≢true e)
 
-equates_operates : (k : Comparing) → equates k ≡ true → operates k ≡ true
-equates_operates (By o) e = refl
-equates_operates NoOperator e = absurd (false≢true e)
+pub equates_operates : (k : Option Operator) → equates k ≡ true → operates k ≡ true
+equates_operates (Some o) e = refl
+equates_operates None e = absurd (false≢true e)
 
 -- a literal closes no list
-lit_code : (k : TokenKind) → literal_kind k ≡ true → eqb (code k) 28 ≡ false
-lit_code TokenKind.End e = absurd (false≢true e)
-lit_code TokenKind.NoToken e = absurd (false≢true e)
-lit_code Name e = absurd (false≢true e)
-lit_code (Word Reserved.And) e = refl
-lit_code (Word Reserved.Any) e = refl
-lit_code (Word Reserved.Every) e = refl
-lit_code (Word Reserved.False) e = refl
-lit_code (Word Reserved.Like) e = refl
-lit_code (Word Reserved.Not) e = refl
-lit_code (Word Reserved.Null) e = refl
-lit_code (Word Reserved.Or) e = refl
-lit_code (Word Reserved.True) e = refl
-lit_code (Number Decimal) e = refl
-lit_code (Number Binary) e = refl
-lit_code (Number Hex) e = refl
-lit_code (Number Real) e = refl
-lit_code Text e = refl
-lit_code (TokenKind.Compare o) e = absurd (false≢true e)
-lit_code (Symbol m) e = absurd (false≢true e)
+pub lit_no_close : (t : Token) → literal t ≡ true → same t (Symbol CloseList) ≡ false
+unfolding literal
+lit_no_close t e = not_kind literal_kind t (Symbol CloseList) refl e
 
-lit_no_close : (t : Token) → literal t ≡ true → same t (Symbol CloseList) ≡ false
-unfolding same literal
-lit_no_close t e = lit_code t.kind e
-
-name_no_literal : (t : Token) → same t Name ≡ true → literal t ≡ false
+pub name_no_literal : (t : Token) → same t Name ≡ true → literal t ≡ false
 unfolding literal
 name_no_literal t a = ap literal_kind (kind_is t Name a)
 
-open_no_literal : (t : Token) → same t (Symbol OpenList) ≡ true → literal t ≡ false
+pub open_no_literal : (t : Token) → same t (Symbol OpenList) ≡ true → literal t ≡ false
 unfolding literal
 open_no_literal t a = ap literal_kind (kind_is t (Symbol OpenList) a)
 
-word_no_operator : (t : Token) (w : Reserved) → same t (Word w) ≡ true → comparing t ≡ NoOperator
+pub word_no_operator : (t : Token) (w : Reserved) → same t (Word w) ≡ true → comparing t ≡ None
 unfolding comparing
 word_no_operator t w a = ap comparing_kind (kind_is t (Word w) a)
 
@@ -147,39 +95,39 @@ module _ (s : Scan) where
     property_read t u (right (join (join (one a) (one b)) (join (one c) f))) d = rw a (names_read (s.next t) u (more (join (one b) (one c)) f) d (first_name t))
 
     -- property, with and without an index
-    abbrev pub ReadsPlain : Token → ReferenceResult → Type 0
-    ReadsPlain u (HasReference p Whole t) = t ≡ u
-    ReadsPlain u (HasReference p (At i) t) = ⊥
-    ReadsPlain u (NoReference x) = ⊥
+    abbrev pub ReadsPlain : Token → Result (Path × Option Token × Token) ℕ → Type 0
+    ReadsPlain u (Ok (p, None, t)) = t ≡ u
+    ReadsPlain u (Ok (p, Some i, t)) = ⊥
+    ReadsPlain u (Err x) = ⊥
 
-    abbrev pub ReadsIndexed : Token → ReferenceResult → Type 0
-    ReadsIndexed u (HasReference p Whole t) = ⊥
-    ReadsIndexed u (HasReference p (At i) t) = t ≡ u
-    ReadsIndexed u (NoReference x) = ⊥
+    abbrev pub ReadsIndexed : Token → Result (Path × Option Token × Token) ℕ → Type 0
+    ReadsIndexed u (Ok (p, None, t)) = ⊥
+    ReadsIndexed u (Ok (p, Some i, t)) = t ≡ u
+    ReadsIndexed u (Err x) = ⊥
 
-    index_none : (a : Bool) (t : Token) → a && same t (Symbol OpenIndex) ≡ false → GP.indexed s a t ≡ HasIndex Whole t
+    pub index_none : (a : Bool) (t : Token) → a && same t (Symbol OpenIndex) ≡ false → GP.indexed s a t ≡ Ok (None, t)
     unfolding GP.indexed
     index_none a t e = rw e refl
 
-    index_read : (t u : Token) → Fits s (in_brackets s) t u → (i : Token) × (GP.indexed s true t ≡ HasIndex (At i) u)
+    pub index_read : (t u : Token) → Fits s (in_brackets s) t u → (i : Token) × (GP.indexed s true t ≡ Ok (Some i, u))
     unfolding GP.indexed GP.index_number GP.close_index
     index_read t u (join (one a) (join (one b) (one c))) = (s.next t, rw (a, b, c) refl)
 
-    plain_from : (a : Bool) (u : Token) (r : PathResult) → Ends u r → a && same u (Symbol OpenIndex) ≡ false → ReadsPlain u (GP.with_path s a r)
+    plain_from : (a : Bool) (u : Token) (r : Result (Path × Token) ℕ) → Ends u r → a && same u (Symbol OpenIndex) ≡ false → ReadsPlain u (GP.with_path s a r)
     unfolding Ends GP.with_path GP.with_index
-    plain_from a u (HasPath p t) e f = rw e (rw (index_none a u f) refl)
-    plain_from a u (NoPath x) e f = e
+    plain_from a u (Ok (p, t)) e f = rw e (rw (index_none a u f) refl)
+    plain_from a u (Err x) e f = e
 
     pub plain_read : (a : Bool) (t u : Token) → Fits s property t u → same u (Symbol Dot) ≡ false → a && same u (Symbol OpenIndex) ≡ false → ReadsPlain u (GP.reference s a t)
     unfolding GP.reference
     plain_read a t u f d e = plain_from a u (GP.property s t) (property_read t u f d) e
 
-    indexed_from : (m u : Token) (r : PathResult) → Ends m r → Fits s (in_brackets s) m u → ReadsIndexed u (GP.with_path s true r)
+    indexed_from : (m u : Token) (r : Result (Path × Token) ℕ) → Ends m r → Fits s (in_brackets s) m u → ReadsIndexed u (GP.with_path s true r)
     unfolding Ends GP.with_path GP.with_index
-    indexed_from m u (HasPath p t) e f = rw e (rw (index_read m u f).1 refl)
-    indexed_from m u (NoPath x) e f = e
+    indexed_from m u (Ok (p, t)) e f = rw e (rw (index_read m u f).1 refl)
+    indexed_from m u (Err x) e f = e
 
-    open_no_dot : (m u : Token) → Fits s (in_brackets s) m u → same m (Symbol Dot) ≡ false
+    pub open_no_dot : (m u : Token) → Fits s (in_brackets s) m u → same m (Symbol Dot) ≡ false
     open_no_dot m u (join (one a) f) = other m (Symbol OpenIndex) (Symbol Dot) a refl
 
     pub element_read : (t u : Token) → Fits s (element s) t u → ReadsIndexed u (GP.reference s true t)
@@ -187,39 +135,39 @@ module _ (s : Scan) where
     element_read t u (join {m = m} f g) = indexed_from m u (GP.property s t) (property_read t m f (open_no_dot m u g)) g
 
     -- the subject: whether it is single, whether it is plain, and where it ends
-    abbrev pub ReadsLeft : Bool → Bool → Token → LeftResult → Type 0
-    ReadsLeft sg pl u (HasLeft a t) = (single a.quantifier ≡ sg) × (plain a.quantifier a.index ≡ pl) × (t ≡ u)
-    ReadsLeft sg pl u (NoLeft x) = ⊥
+    abbrev pub ReadsLeft : Bool → Bool → Token → Result (LeftSide × Token) ℕ → Type 0
+    ReadsLeft sg pl u (Ok (a, t)) = (single a.quantifier ≡ sg) × (plain a.quantifier a.index ≡ pl) × (t ≡ u)
+    ReadsLeft sg pl u (Err x) = ⊥
 
-    plain_left : (x : ℕ) (n : Bool) (u : Token) (r : ReferenceResult) → ReadsPlain u r → ReadsLeft true true u (GC.left_of x n Single r)
+    plain_left : (x : ℕ) (n : Bool) (u : Token) (r : Result (Path × Option Token × Token) ℕ) → ReadsPlain u r → ReadsLeft true true u (GC.left_of x n Single r)
     unfolding GC.left_of
-    plain_left x n u (HasReference p Whole t) e = (refl, refl, e)
-    plain_left x n u (HasReference p (At i) t) e = absurd e
-    plain_left x n u (NoReference y) e = e
+    plain_left x n u (Ok (p, None, t)) e = (refl, refl, e)
+    plain_left x n u (Ok (p, Some i, t)) e = absurd e
+    plain_left x n u (Err y) e = e
 
-    indexed_left : (x : ℕ) (n : Bool) (u : Token) (r : ReferenceResult) → ReadsIndexed u r → ReadsLeft true false u (GC.left_of x n Single r)
+    indexed_left : (x : ℕ) (n : Bool) (u : Token) (r : Result (Path × Option Token × Token) ℕ) → ReadsIndexed u r → ReadsLeft true false u (GC.left_of x n Single r)
     unfolding GC.left_of
-    indexed_left x n u (HasReference p Whole t) e = absurd e
-    indexed_left x n u (HasReference p (At i) t) e = (refl, refl, e)
-    indexed_left x n u (NoReference y) e = e
+    indexed_left x n u (Ok (p, None, t)) e = absurd e
+    indexed_left x n u (Ok (p, Some i, t)) e = (refl, refl, e)
+    indexed_left x n u (Err y) e = e
 
-    many_left : (x : ℕ) (n : Bool) (k : Quantifier) (u : Token) (r : ReferenceResult) → single k ≡ false → ReadsPlain u r → ReadsLeft false false u (GC.left_of x n k r)
+    many_left : (x : ℕ) (n : Bool) (k : Quantifier) (u : Token) (r : Result (Path × Option Token × Token) ℕ) → single k ≡ false → ReadsPlain u r → ReadsLeft false false u (GC.left_of x n k r)
     unfolding GC.left_of
-    many_left x n k u (HasReference p Whole t) f e = (f, f, e)
-    many_left x n k u (HasReference p (At i) t) f e = absurd e
-    many_left x n k u (NoReference y) f e = e
+    many_left x n k u (Ok (p, None, t)) f e = (f, f, e)
+    many_left x n k u (Ok (p, Some i, t)) f e = absurd e
+    many_left x n k u (Err y) f e = e
 
     -- a name is neither NOT nor ANY nor EVERY
-    name_first : (t u : Token) → Fits s property t u → same t Name ≡ true
+    pub name_first : (t u : Token) → Fits s property t u → same t Name ≡ true
     name_first t u (left (join (one a) f)) = a
     name_first t u (right (join (join (one a) (one b)) f)) = a
 
     module _ (t : Token) (a : same t Name ≡ true) where
-      no_quantifier : quantifying t ≡ Single
+      pub no_quantifier : quantifying t ≡ Single
       unfolding quantifying
       no_quantifier = rw (other t Name (Word Reserved.Any) a refl, other t Name (Word Reserved.Every) a refl) refl
 
-      name_left : GC.left_side s t ≡ GC.left_of t.start false Single (GP.reference s true t)
+      pub name_left : GC.left_side s t ≡ GC.left_of t.start false Single (GP.reference s true t)
       unfolding GC.left_side GC.left_at GC.left_by
       name_left = rw (other t Name (Word Reserved.Not) a refl) (rw no_quantifier refl)
 
@@ -248,31 +196,31 @@ module _ (s : Scan) where
         (rw a (many_left t.start true Every u (GP.reference s false (s.next (s.next t))) refl (plain_read false (s.next (s.next t)) u f d refl))))
 
     -- the right side of so many elements: read where they are within the limit, refused for it where not
-    abbrev pub ReadsRight : ℕ → ℕ → Token → RightResult → Type 0
-    ReadsRight limit n u (HasRight r t) = (t ≡ u) × (n ≤ limit)
-    ReadsRight limit n u (NoRight f) = (f.cause ≡ Limit) × (limit < n)
+    abbrev pub ReadsRight : ℕ → ℕ → Token → Result (RightSide × Token) Fault → Type 0
+    ReadsRight limit n u (Ok (r, t)) = (t ≡ u) × (n ≤ limit)
+    ReadsRight limit n u (Err f) = (f.cause ≡ Limit) × (limit < n)
 
-    reads_next : (limit n : ℕ) (u : Token) (r : RightResult) → ReadsRight limit n u r → ReadsRight (suc limit) (suc n) u r
-    reads_next limit n u (HasRight r t) e = (e.0, omega (arith, e.1))
-    reads_next limit n u (NoRight f) e = (e.0, omega (arith, e.1))
+    reads_next : (limit n : ℕ) (u : Token) (r : Result (RightSide × Token) Fault) → ReadsRight limit n u r → ReadsRight (suc limit) (suc n) u r
+    reads_next limit n u (Ok (r, t)) e = (e.0, omega (arith, e.1))
+    reads_next limit n u (Err f) e = (e.0, omega (arith, e.1))
 
     right_literal : (pl : Bool) (o : Operator) (t : Token) → literal t ≡ true → ReadsRight 32 0 (s.next t) (GC.operand s pl o t)
     unfolding GC.operand
     right_literal pl o t l = rw l (refl, omega arith)
 
-    plain_right : (u : Token) (r : ReferenceResult) → ReadsPlain u r → ReadsRight 32 0 u (GC.operand_of r)
+    plain_right : (u : Token) (r : Result (Path × Option Token × Token) ℕ) → ReadsPlain u r → ReadsRight 32 0 u (GC.operand_of r)
     unfolding GC.operand_of
-    plain_right u (HasReference p Whole t) e = (e, omega arith)
-    plain_right u (HasReference p (At i) t) e = absurd e
-    plain_right u (NoReference x) e = absurd e
+    plain_right u (Ok (p, None, t)) e = (e, omega arith)
+    plain_right u (Ok (p, Some i, t)) e = absurd e
+    plain_right u (Err x) e = absurd e
 
-    indexed_right : (u : Token) (r : ReferenceResult) → ReadsIndexed u r → ReadsRight 32 0 u (GC.operand_of r)
+    indexed_right : (u : Token) (r : Result (Path × Option Token × Token) ℕ) → ReadsIndexed u r → ReadsRight 32 0 u (GC.operand_of r)
     unfolding GC.operand_of
-    indexed_right u (HasReference p Whole t) e = absurd e
-    indexed_right u (HasReference p (At i) t) e = (e, omega arith)
-    indexed_right u (NoReference x) e = absurd e
+    indexed_right u (Ok (p, None, t)) e = absurd e
+    indexed_right u (Ok (p, Some i, t)) e = (e, omega arith)
+    indexed_right u (Err x) e = absurd e
 
-    name_operand : (pl : Bool) (o : Operator) (t : Token) → same t Name ≡ true → GC.operand s pl o t ≡ GC.operand_of (GP.reference s (not pl) t)
+    pub name_operand : (pl : Bool) (o : Operator) (t : Token) → same t Name ≡ true → GC.operand s pl o t ≡ GC.operand_of (GP.reference s (not pl) t)
     unfolding GC.operand
     name_operand pl o t a = rw (name_no_literal t a, other t Name (Symbol OpenList) a refl) refl
 
@@ -306,7 +254,7 @@ module _ (s : Scan) where
     right_list t u (join (one a) (join none (one c))) = rw c (refl, omega arith)
     right_list t u (join (one a) (join {m = m} (just (join (one l) f)) c)) = list_closed t m u l f c
 
-    open_first : (t u : Token) → Fits s array_literal_rule t u → same t (Symbol OpenList) ≡ true
+    pub open_first : (t u : Token) → Fits s array_literal_rule t u → same t (Symbol OpenList) ≡ true
     open_first t u (join (one a) f) = a
 
     right_array_law : (o : Operator) (t u : Token) → equality o ≡ true → (f : Fits s array_literal_rule t u) → ReadsRight 32 (element_count f) u (GC.operand s true o t)
@@ -318,24 +266,24 @@ module _ (s : Scan) where
     right_pattern t u (one a) = rw a (refl, omega arith)
 
     -- comparisons
-    abbrev pub ReadsComparison : ℕ → Token → ComparisonResult → Type 0
-    ReadsComparison n u (HasComparison c t) = (t ≡ u) × (n ≤ 32)
-    ReadsComparison n u (NoComparison f) = (f.cause ≡ Limit) × (32 < n)
+    abbrev pub ReadsComparison : ℕ → Token → Result (Comparison × Token) Fault → Type 0
+    ReadsComparison n u (Ok (c, t)) = (t ≡ u) × (n ≤ 32)
+    ReadsComparison n u (Err f) = (f.cause ≡ Limit) × (32 < n)
 
-    comp_right : (n : ℕ) (u : Token) (a : LeftSide) (v : Operation) (r : RightResult) → ReadsRight 32 n u r → ReadsComparison n u (GC.comp_of a v r)
+    comp_right : (n : ℕ) (u : Token) (a : LeftSide) (v : Operation) (r : Result (RightSide × Token) Fault) → ReadsRight 32 n u r → ReadsComparison n u (GC.comp_of a v r)
     unfolding GC.comp_of
-    comp_right n u a v (HasRight r t) e = e
-    comp_right n u a v (NoRight f) e = e
+    comp_right n u a v (Ok (r, t)) e = e
+    comp_right n u a v (Err f) e = e
 
-    operation_is : (sg : Bool) (m : Token) (o : Operator) → comparing m ≡ By o → GC.operation s sg m ≡ HasOperation (Compare o) (s.next m)
+    pub operation_is : (sg : Bool) (m : Token) (o : Operator) → comparing m ≡ Some o → GC.operation s sg m ≡ Ok (Compare o, s.next m)
     unfolding GC.operation GC.operation_by
     operation_is sg m o e = rw e refl
 
-    compare_from : (n : ℕ) (sg pl : Bool) (m u : Token) (o : Operator) (r : LeftResult) → ReadsLeft sg pl m r → comparing m ≡ By o → ReadsRight 32 n u (GC.operand s pl o (s.next m)) → ReadsComparison n u (GC.comp_left s r)
+    compare_from : (n : ℕ) (sg pl : Bool) (m u : Token) (o : Operator) (r : Result (LeftSide × Token) ℕ) → ReadsLeft sg pl m r → comparing m ≡ Some o → ReadsRight 32 n u (GC.operand s pl o (s.next m)) → ReadsComparison n u (GC.comp_left s r)
     unfolding GC.comp_left GC.comp_operation GC.right_side
-    compare_from n sg pl m u o (HasLeft a t) e f g =
+    compare_from n sg pl m u o (Ok (a, t)) e f g =
         rw e.2 (rw (operation_is (single a.quantifier) m o f) (comp_right n u a (Compare o) (GC.operand s (plain a.quantifier a.index) o (s.next m)) (rw e.1 g)))
-    compare_from n sg pl m u o (NoLeft x) e f g = absurd e
+    compare_from n sg pl m u o (Err x) e f g = absurd e
 
     like_is : (m w : Token) → Fits s like_op m w → (v : Operation) × ((a : LeftSide) → GC.comp_operation s a (GC.operation s true m) ≡ GC.comp_of a v (GC.pattern s w))
     unfolding GC.operation GC.operation_by GC.like GC.not_like GC.comp_operation GC.right_side
@@ -343,12 +291,12 @@ module _ (s : Scan) where
     like_is m w (join (just (one n)) (one a)) =
         (NotLike, λ x. rw (word_no_operator m Reserved.Not n) (rw (other m (Word Reserved.Not) (Word Reserved.Like) n refl) (rw n (rw a refl))))
 
-    like_from : (pl : Bool) (m w u : Token) (r : LeftResult) → ReadsLeft true pl m r → Fits s like_op m w → ReadsRight 32 0 u (GC.pattern s w) → ReadsComparison 0 u (GC.comp_left s r)
+    like_from : (pl : Bool) (m w u : Token) (r : Result (LeftSide × Token) ℕ) → ReadsLeft true pl m r → Fits s like_op m w → ReadsRight 32 0 u (GC.pattern s w) → ReadsComparison 0 u (GC.comp_left s r)
     unfolding GC.comp_left
-    like_from pl m w u (HasLeft a t) e f g = rw e.2 (rw e.0 (let i = like_is m w f in rw (i.1 a) (comp_right 0 u a i.0 (GC.pattern s w) g)))
-    like_from pl m w u (NoLeft x) e f g = absurd e
+    like_from pl m w u (Ok (a, t)) e f g = rw e.2 (rw e.0 (let i = like_is m w f in rw (i.1 a) (comp_right 0 u a i.0 (GC.pattern s w) g)))
+    like_from pl m w u (Err x) e f g = absurd e
 
-    compared : (n : ℕ) (sg pl : Bool) (t m u : Token) (o : Operator) → ReadsLeft sg pl m (GC.left_side s t) → comparing m ≡ By o → ReadsRight 32 n u (GC.operand s pl o (s.next m)) → ReadsComparison n u (GC.property_comp s t)
+    compared : (n : ℕ) (sg pl : Bool) (t m u : Token) (o : Operator) → ReadsLeft sg pl m (GC.left_side s t) → comparing m ≡ Some o → ReadsRight 32 n u (GC.operand s pl o (s.next m)) → ReadsComparison n u (GC.property_comp s t)
     unfolding GC.property_comp
     compared n sg pl t m u o e f g = compare_from n sg pl m u o (GC.left_side s t) e f g
 
@@ -356,7 +304,7 @@ module _ (s : Scan) where
     unfolding GC.property_comp
     matched pl t m w u e f g = like_from pl m w u (GC.left_side s t) e f g
 
-    like_first : (m w : Token) → Fits s like_op m w → (same m (Symbol Dot) ≡ false) × (same m (Symbol OpenIndex) ≡ false)
+    pub like_first : (m w : Token) → Fits s like_op m w → (same m (Symbol Dot) ≡ false) × (same m (Symbol OpenIndex) ≡ false)
     like_first m w (join none (one a)) = (other m (Word Reserved.Like) (Symbol Dot) a refl, other m (Word Reserved.Like) (Symbol OpenIndex) a refl)
     like_first m w (join (just (one a)) f) = (other m (Word Reserved.Not) (Symbol Dot) a refl, other m (Word Reserved.Not) (Symbol OpenIndex) a refl)
 

@@ -1,4 +1,5 @@
 -- What derives from fql within the limits is read; what derives and is not within them is refused for a limit.
+use Rattle.std.specs.Prelude.{Err, Ok, Result}
 use Prim.Native.Nat.{ℕ, zero, suc, ◌+◌, ◌≤◌, ◌<◌}
 use mathlib.Core.Path.{◌≡◌, refl, ◌∙◌}
 use mathlib.Core.List.{List}
@@ -10,29 +11,25 @@ use Rattle.token.specs.declared.TokenKind.TheVariants.{End, Name, Symbol, Word}
 use Rattle.token.specs.declared.Token.{Token}
 use Rattle.token.specs.Token.{token}
 use Rattle.terminal.specs.declared.operator.BoolOp.{BoolOp}
-use Rattle.terminal.specs.declared.operator.BoolOp.TheVariants as BoolOp
 use Rattle.terminal.specs.Terminal.{same, joining, opening}
 use Rattle.terminal.proofs.KindCodes.{other}
 use Rattle.syntax.specs.declared.comparison.Comparison.{Comparison}
 use Rattle.syntax.specs.declared.fault.Cause.TheVariants.{Limit}
-use Rattle.syntax.specs.declared.comparison.ComparisonResult.{ComparisonResult}
-use Rattle.syntax.specs.declared.comparison.ComparisonResult.TheVariants.{HasComparison, NoComparison}
 use Rattle.syntax.specs.Comparison as GC
 use Rattle.syntax.specs.Scan.{Scan, skip, scan}
 use Rattle.query_text.specs.declared.join.Join.{Join}
 use Rattle.query_text.specs.declared.join.Join.TheVariants.{Last, Inner, Outer}
-use Rattle.query_text.specs.declared.join.JoinResult.TheVariants.{HasJoin}
-use Rattle.query_text.specs.declared.query.NextResult.TheVariants.{HasNext, NoNext}
 use Rattle.query_text.specs.Query as GQ
 use Rattle.query_text.specs.Query.{Query, bad, good, last_join}
 use Rattle.grammar.specs.Abnf.{Fits, one, join, left, right, none, just, stop, more, many, then, is, array_op, property, element, bool_op, property_comp_rule, fql_expr, bracketed, fql, Derives}
 use Rattle.grammar.specs.Limits.{repeats, elements_in, expr_count, groups_count, comparison_count, ShortIn, ShortExpr, ShortGroups, Short}
 use Rattle.syntax.proofs.Room.{Roomy, roomy}
 use Rattle.grammar.proofs.Complete.{ReadsComparison, comparison_read}
+use Rattle.syntax.specs.declared.fault.Fault.{Fault}
 
 module _ (s : Scan) where
   -- what a comparison starts with
-  abbrev First : Token → Type 0
+  abbrev pub First : Token → Type 0
   First t = (opening t ≡ true) × (same t (Symbol Open) ≡ false)
 
   named : (t : Token) → same t Name ≡ true → First t
@@ -66,7 +63,7 @@ module _ (s : Scan) where
   array_first t u (join (join none (right (one a))) f) = every_first t a
   array_first t u (join (join (just (one a)) o) f) = not_first t a
 
-  comp_first : (t u : Token) → Fits s (property_comp_rule s) t u → First t
+  pub comp_first : (t u : Token) → Fits s (property_comp_rule s) t u → First t
   comp_first t u (left (join {m = m} f g)) = property_first t m f
   comp_first t u (right (left (join {m = m} f g))) = property_first t m f
   comp_first t u (right (right (left (join {m = m} f g)))) = property_first t m f
@@ -80,43 +77,43 @@ module _ (s : Scan) where
   comp_first t u (right (right (right (right (right (right (right (right (right (right (left (join {m = m} f g)))))))))))) = property_first t m f
   comp_first t u (right (right (right (right (right (right (right (right (right (right (right (join {m = m} f g)))))))))))) = element_first t m f
 
-  expr_first : (t u : Token) → Fits s (fql_expr s) t u → First t
+  pub expr_first : (t u : Token) → Fits s (fql_expr s) t u → First t
   expr_first t u (join {m = m} f g) = comp_first t m f
 
   -- what follows one
-  join_op : (g : Bool) (m u : Token) → Fits s bool_op m u → (o : BoolOp) × (GQ.join_after s g m ≡ HasJoin (Inner o) u)
+  join_op : (g : Bool) (m u : Token) → Fits s bool_op m u → (o : BoolOp) × (GQ.join_after s g m ≡ Ok (Inner o, u))
   unfolding GQ.join_after GQ.join_by joining
   join_op g m u (left (one a)) = (BoolOp.And, rw a refl)
   join_op g m u (right (one a)) = (BoolOp.Or, rw (other m (Word Reserved.Or) (Word Reserved.And) a refl) (rw a refl))
 
-  join_end : (m : Token) → same m End ≡ true → GQ.join_after s false m ≡ HasJoin Last m
+  pub join_end : (m : Token) → same m End ≡ true → GQ.join_after s false m ≡ Ok (Last, m)
   unfolding GQ.join_after GQ.join_by GQ.at_end joining
   join_end m a = rw (other m End (Word Reserved.And) a refl, other m End (Word Reserved.Or) a refl) (rw a refl)
 
-  join_close : (m : Token) → same m (Symbol Close) ≡ true → GQ.join_after s true m ≡ GQ.after_group s (s.next m)
+  pub join_close : (m : Token) → same m (Symbol Close) ≡ true → GQ.join_after s true m ≡ GQ.after_group s (s.next m)
   unfolding GQ.join_after GQ.join_by GQ.outer joining
   join_close m a = rw (other m (Symbol Close) (Word Reserved.And) a refl, other m (Symbol Close) (Word Reserved.Or) a refl) (rw a refl)
 
-  group_end : (m : Token) → same m End ≡ true → GQ.after_group s m ≡ HasJoin Last m
+  pub group_end : (m : Token) → same m End ≡ true → GQ.after_group s m ≡ Ok (Last, m)
   unfolding GQ.after_group GQ.outer_by GQ.at_end joining
   group_end m a = rw (other m End (Word Reserved.And) a refl, other m End (Word Reserved.Or) a refl) (rw a refl)
 
-  group_next : (m x : Token) → Fits s bool_op m x → same x (Symbol Open) ≡ true → (o : BoolOp) × (GQ.after_group s m ≡ HasJoin (Outer o) (s.next x))
+  group_next : (m x : Token) → Fits s bool_op m x → same x (Symbol Open) ≡ true → (o : BoolOp) × (GQ.after_group s m ≡ Ok (Outer o, s.next x))
   unfolding GQ.after_group GQ.outer_by GQ.open_group joining
   group_next m x (left (one a)) b = (BoolOp.And, rw a (rw b refl))
   group_next m x (right (one a)) b = (BoolOp.Or, rw (other m (Word Reserved.Or) (Word Reserved.And) a refl) (rw a (rw b refl)))
 
-  abbrev Clear : Token → Type 0
+  abbrev pub Clear : Token → Type 0
   Clear m = (same m (Symbol Dot) ≡ false) × (same m (Symbol OpenIndex) ≡ false)
 
-  op_clear : (m u : Token) → Fits s bool_op m u → Clear m
+  pub op_clear : (m u : Token) → Fits s bool_op m u → Clear m
   op_clear m u (left (one a)) = (other m (Word Reserved.And) (Symbol Dot) a refl, other m (Word Reserved.And) (Symbol OpenIndex) a refl)
   op_clear m u (right (one a)) = (other m (Word Reserved.Or) (Symbol Dot) a refl, other m (Word Reserved.Or) (Symbol OpenIndex) a refl)
 
-  end_clear : (m : Token) → same m End ≡ true → Clear m
+  pub end_clear : (m : Token) → same m End ≡ true → Clear m
   end_clear m a = (other m End (Symbol Dot) a refl, other m End (Symbol OpenIndex) a refl)
 
-  close_clear : (m : Token) → same m (Symbol Close) ≡ true → Clear m
+  pub close_clear : (m : Token) → same m (Symbol Close) ≡ true → Clear m
   close_clear m a = (other m (Symbol Close) (Symbol Dot) a refl, other m (Symbol Close) (Symbol OpenIndex) a refl)
 
   -- so many comparisons, of which `Short` says that their lists are short: read where both are within the limits, refused for a limit where not
@@ -140,42 +137,42 @@ module _ (s : Scan) where
   joined_well limit n m A g c (Outer o) u h z e = before_well limit n m A c (Outer o) (GQ.query_from limit s g u) h e
 
   -- the comparisons of bracketed expressions, the first one's bracket read
-  abbrev Groups : Token → Token → Type 0
+  abbrev pub Groups : Token → Token → Type 0
   Groups t e = Fits s (then (fql_expr s) (then (is (Symbol Close)) (many (then bool_op (bracketed s))))) t e
 
-  unfoldable group_count : {t e : Token} → Groups t e → ℕ
+  unfoldable pub group_count : {t e : Token} → Groups t e → ℕ
   group_count (join f (join c k)) = expr_count f + groups_count k
 
-  unfoldable ShortGroup : {t e : Token} → Groups t e → Type 0
+  unfoldable pub ShortGroup : {t e : Token} → Groups t e → Type 0
   ShortGroup (join f (join c k)) = ShortExpr f × ShortGroups k
 
-  expr_some : (t e : Token) (f : Fits s (fql_expr s) t e) → 0 < expr_count f
+  pub expr_some : (t e : Token) (f : Fits s (fql_expr s) t e) → 0 < expr_count f
   unfolding expr_count
   expr_some t e (join c k) = omega arith
 
-  group_some : (t e : Token) (f : Groups t e) → 0 < group_count f
+  pub group_some : (t e : Token) (f : Groups t e) → 0 < group_count f
   unfolding group_count
   group_some t e (join {m = m} f (join c k)) = omega (arith, expr_some t m f)
 
-  groups_first : (t e : Token) → Groups t e → First t
+  pub groups_first : (t e : Token) → Groups t e → First t
   groups_first t e (join {m = m} f g) = expr_first t m f
 
   module _ (roomy : Roomy s) where
-    from_compared : (limit n m : ℕ) (A : Type 0) (g : Bool) (x u : Token) (j : Join) (r : ComparisonResult) → ReadsComparison s roomy m x r → GQ.join_after s g x ≡ HasJoin j u
+    from_compared : (limit n m : ℕ) (A : Type 0) (g : Bool) (x u : Token) (j : Join) (r : Result (Comparison × Token) Fault) → ReadsComparison s roomy m x r → GQ.join_after s g x ≡ Ok (j, u)
         → ((c : Comparison) → m ≤ 32 → ReadsQuery (suc limit) n ((m ≤ 32) × A) (elim (last_join j) [ true ↦ good (GQ.only c) | false ↦ GQ.before c j (GQ.query_from limit s g u) ]))
-        → ReadsQuery (suc limit) n ((m ≤ 32) × A) (elim (GQ.next_by s g r) [ NoNext f ↦ bad f | HasNext c j u ↦ elim (last_join j) [ true ↦ good (GQ.only c) | false ↦ GQ.before c j (GQ.query_from limit s g u) ] ])
+        → ReadsQuery (suc limit) n ((m ≤ 32) × A) (elim (GQ.next_by s g r) [ Err f ↦ bad f | Ok (c, j, u) ↦ elim (last_join j) [ true ↦ good (GQ.only c) | false ↦ GQ.before c j (GQ.query_from limit s g u) ] ])
     unfolding GQ.next_by GQ.next_of
-    from_compared limit n m A g x u j (HasComparison c y) e f q = rw e.0 (rw f (q c e.1))
-    from_compared limit n m A g x u j (NoComparison y) e f q = (e.0, λ k l. omega (arith, e.1, l.0))
+    from_compared limit n m A g x u j (Ok (c, y)) e f q = rw e.0 (rw f (q c e.1))
+    from_compared limit n m A g x u j (Err y) e f q = (e.0, λ k l. omega (arith, e.1, l.0))
 
-    from_more : (limit n : ℕ) (A : Type 0) (g : Bool) (t m u : Token) (j : Join) (f : Fits s (property_comp_rule s) t m) → Clear m → GQ.join_after s g m ≡ HasJoin j u → last_join j ≡ false
+    from_more : (limit n : ℕ) (A : Type 0) (g : Bool) (t m u : Token) (j : Join) (f : Fits s (property_comp_rule s) t m) → Clear m → GQ.join_after s g m ≡ Ok (j, u) → last_join j ≡ false
         → ReadsQuery limit n A (GQ.query_from limit s g u) → ReadsQuery (suc limit) (suc n) ((elements_in f ≤ 32) × A) (GQ.query_from (suc limit) s g t)
     unfolding GQ.query_from GQ.next_comparison
     from_more limit n A g t m u j f k e z q =
         from_compared limit (suc n) (elements_in f) A g m u j (GC.property_comp s t) (comparison_read s roomy t m f k.0 k.1) e
         (λ c h. joined_well limit n (elements_in f) A g c j u h z q)
 
-    from_last : (limit : ℕ) (g : Bool) (t m u : Token) (f : Fits s (property_comp_rule s) t m) → Clear m → GQ.join_after s g m ≡ HasJoin Last u
+    from_last : (limit : ℕ) (g : Bool) (t m u : Token) (f : Fits s (property_comp_rule s) t m) → Clear m → GQ.join_after s g m ≡ Ok (Last, u)
         → ReadsQuery (suc limit) 1 ((elements_in f ≤ 32) × Unit) (GQ.query_from (suc limit) s g t)
     unfolding GQ.query_from GQ.next_comparison
     from_last limit g t m u f k e =

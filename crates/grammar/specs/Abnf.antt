@@ -1,15 +1,14 @@
 -- DSP0212's first group (000 5.3.2) as ABNF (RFC 5234) over tokens: the rules under their names as 5.3.2 prints them, as data, and what fits one.
-use Rattle.std.specs.Prelude.{◌≡◌, Bool, true, false}
+use Rattle.std.specs.Prelude.{◌≡◌, Bool, true, false, None, Option, Some}
 use Rattle.token.specs.declared.Reserved.TheVariants.{And, Any, Every, Like, Not, Or}
 use Rattle.token.specs.declared.Punctuation.TheVariants.{Open, Close, OpenIndex, CloseIndex, OpenList, CloseList, Comma, Dot}
 use Rattle.token.specs.declared.TokenKind.{TokenKind}
 use Rattle.token.specs.declared.TokenKind.TheVariants.{End, Name, Word, Text, Symbol}
 use Rattle.token.specs.declared.Token.{Token}
 use Rattle.token.specs.Token.{token}
-use Rattle.terminal.specs.declared.operator.Comparing.{Comparing}
-use Rattle.terminal.specs.declared.operator.Comparing.TheVariants.{By, NoOperator}
 use Rattle.terminal.specs.Terminal.{same, word, literal, comparing, equality}
 use Rattle.syntax.specs.Scan.{Scan}
+use Rattle.base.specs.declared.order.Operator.{Operator}
 
 pub data Rule : Type 0 where
   set : (Token → Bool) → Rule
@@ -32,13 +31,13 @@ pub data Fits (s : Scan) : Rule → Token → Token → Type 0 where
 abbrev pub is : TokenKind → Rule
 is k = set (λ (t : Token). same t k)
 
-abbrev pub operates : Comparing → Bool
-operates (By o) = true
-operates NoOperator = false
+abbrev pub operates : Option Operator → Bool
+operates (Some o) = true
+operates None = false
 
-abbrev pub equates : Comparing → Bool
-equates (By o) = equality o
-equates NoOperator = false
+abbrev pub equates : Option Operator → Bool
+equates (Some o) = equality o
+equates None = false
 
 -- scalar-comp-op = "=" / "<>" / "<" / ">" / "<=" / ">="; array-comp-op = "=" / "<>"
 abbrev pub scalar_comp_op : Rule

@@ -1,7 +1,6 @@
 pub mod Numbers
 pub mod Begun
 pub mod Rules
-pub mod Sound
 pub mod LeftSide
 pub mod RightSide
 pub mod Comparison

@@ -1,6 +1,7 @@
 -- The place of 11 and of 12. Both are said at a token such that every text with tokens of the same kinds up to and with it is refused there too. 11 is said at
 -- the first token that no query can have there: the query's tokens before it begin a text that derives from `fql`, and with it they begin none. 12 is said at a token
 -- with which they still begin one, but none within the limits.
+use Rattle.std.specs.Prelude.{Err, Ok, Result}
 use Prim.Native.Nat.{ℕ, suc, ◌≤◌, ◌<◌}
 use mathlib.Core.Path.{◌≡◌, refl, sym, ap, ◌∙◌}
 use mathlib.Core.List.{List, []}
@@ -11,7 +12,6 @@ use lib.ListN.{length}
 use lib.Dec.{ltb}
 use borrow.Author.Tests.{ltb-true, ltb-false}
 use Rattle.base.specs.Pick.{pick}
-use Rattle.encoding.specs.declared.text.Utf8.{Utf8}
 use Rattle.encoding.specs.WellFormed.{first_ill_formed}
 use Rattle.token.specs.declared.Token.{Token}
 use Rattle.token.specs.Token.{token_after}
@@ -22,8 +22,6 @@ use Rattle.syntax.specs.declared.fault.Fault.{Fault}
 use Rattle.syntax.specs.Scan.{scan, fault}
 use Rattle.syntax.proofs.Room.{roomy}
 use Rattle.syntax.proofs.Local.{outer_number}
-use Rattle.query_text.specs.declared.query.Verdict.{Verdict}
-use Rattle.query_text.specs.declared.query.Verdict.TheVariants.{WellFormed, Refused}
 use Rattle.query_text.specs.Query.{Query, bad, good, query_start, query, verdict}
 use Rattle.query_text.specs.Text.{number_of, encoded_verdict, text_verdict}
 use Rattle.query_text.proofs.Simulation.{query_at, Corresponds, refused_alike}
@@ -113,32 +111,32 @@ place_of_limit q p e =
     }
 
 -- ---- the same of what is said of a text: a fault of the grammar or of a limit is the query's
-abbrev number_in : Verdict → ℕ
-number_in WellFormed = 0
-number_in (Refused f) = number_of f.cause
+abbrev number_in : Result (Unit {0}) Fault → ℕ
+number_in (Ok tt) = 0
+number_in (Err f) = number_of f.cause
 
-abbrev fault_in : Fault → Verdict → Fault
-fault_in d WellFormed = d
-fault_in d (Refused f) = f
+abbrev fault_in : Fault → Result (Unit {0}) Fault → Fault
+fault_in d (Ok tt) = d
+fault_in d (Err f) = f
 
-said_query : (q : List ℕ) (f : Fault) → 10 < number_of f.cause → text_verdict q ≡ Refused f → query q ≡ bad f
+said_query : (q : List ℕ) (f : Fault) → 10 < number_of f.cause → text_verdict q ≡ Err f → query q ≡ bad f
 unfolding text_verdict encoded_verdict verdict
 said_query q f n e = go (ltb 4096 (length q)) e
   where
-    whole : (x : Query) → query q ≡ x → verdict x ≡ Refused f → query q ≡ bad f
-    whole (bad g) z e = z ∙ ap (λ (v : Verdict). bad (fault_in f v)) e
+    whole : (x : Query) → query q ≡ x → verdict x ≡ Err f → query q ≡ bad f
+    whole (bad g) z e = z ∙ ap (λ (v : Result (Unit {0}) Fault). bad (fault_in f v)) e
     whole (good l) z e = let y = ap number_in e in absurd (omega arith)
 
-    encoded : (u : Utf8) → encoded_verdict q u ≡ Refused f → query q ≡ bad f
-    encoded (Utf8.IllFormed p) e = let y = ap number_in e in absurd (omega arith)
-    encoded Utf8.WellFormed e = whole (query q) refl e
+    encoded : (u : Result (Unit {0}) ℕ) → encoded_verdict q u ≡ Err f → query q ≡ bad f
+    encoded (Err p) e = let y = ap number_in e in absurd (omega arith)
+    encoded (Ok u) e = whole (query q) refl e
 
-    go : (t : Bool) → pick t (Refused (fault Length 0)) (encoded_verdict q (first_ill_formed q)) ≡ Refused f → query q ≡ bad f
+    go : (t : Bool) → pick t (Err (fault Length 0)) (encoded_verdict q (first_ill_formed q)) ≡ Err f → query q ≡ bad f
     go true e = let y = ap number_in e in absurd (omega arith)
     go false e = encoded (first_ill_formed q) e
 
-pub said_grammar : (q : List ℕ) (p : ℕ) → text_verdict q ≡ Refused (fault Grammar p) → FirstImpossible q p
+pub said_grammar : (q : List ℕ) (p : ℕ) → text_verdict q ≡ Err (fault Grammar p) → FirstImpossible q p
 said_grammar q p e = place_of_grammar q p (said_query q (fault Grammar p) (omega arith) e)
 
-pub said_limit : (q : List ℕ) (p : ℕ) → text_verdict q ≡ Refused (fault Limit p) → OverLimit q p
+pub said_limit : (q : List ℕ) (p : ℕ) → text_verdict q ≡ Err (fault Limit p) → OverLimit q p
 said_limit q p e = place_of_limit q p (said_query q (fault Limit p) (omega arith) e)

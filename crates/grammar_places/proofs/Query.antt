@@ -1,35 +1,27 @@
 -- A query that is refused is begun: its tokens, up to the fault's, and with it where it is over a limit, begin what fits `fql`.
+use Rattle.std.specs.Prelude.{Err, None, Ok, Option, Result, Some}
 use Prim.Native.Nat.{ℕ, zero, suc}
 use mathlib.Core.Path.{◌≡◌, refl}
 use mathlib.Core.List.{List}
 use mathlib.Core.Bool.{Bool, true, false}
-use native.Mathlib.Omega.{arith}
 use Rattle.base.specs.Pick.{pick}
 use Rattle.token.specs.declared.Punctuation.TheVariants.{Open, Close}
 use Rattle.token.specs.declared.TokenKind.TheVariants.{End, Symbol}
 use Rattle.token.specs.declared.Token.{Token}
 use Rattle.terminal.specs.declared.operator.BoolOp.{BoolOp}
-use Rattle.terminal.specs.declared.operator.Joining.{Joining}
-use Rattle.terminal.specs.declared.operator.Joining.TheVariants.{With, NoBoolOp}
 use Rattle.terminal.specs.Terminal.{same, joining, opening}
 use Rattle.syntax.specs.declared.comparison.Comparison.{Comparison}
-use Rattle.syntax.specs.declared.comparison.ComparisonResult.{ComparisonResult}
-use Rattle.syntax.specs.declared.comparison.ComparisonResult.TheVariants.{HasComparison, NoComparison}
 use Rattle.syntax.specs.declared.fault.Fault.{Fault}
 use Rattle.syntax.specs.Comparison as GC
 use Rattle.syntax.specs.Scan.{Scan, limited, skip}
 use Rattle.query_text.specs.declared.join.Join.{Join}
 use Rattle.query_text.specs.declared.join.Join.TheVariants.{Last, Inner, Outer}
-use Rattle.query_text.specs.declared.join.JoinResult.{JoinResult}
-use Rattle.query_text.specs.declared.join.JoinResult.TheVariants.{HasJoin, NoJoin}
-use Rattle.query_text.specs.declared.query.NextResult.{NextResult}
-use Rattle.query_text.specs.declared.query.NextResult.TheVariants.{HasNext, NoNext}
 use Rattle.query_text.specs.Query as GQ
 use Rattle.query_text.specs.Query.{Query, bad, good, last_join}
 use Rattle.query_text.proofs.Simulation.{query_at}
 use Rattle.grammar.specs.Abnf.{Rule, Fits, one, join, left, right, stop, more, many, then, is, bool_op, property_comp_rule, fql_expr, bracketed, fql}
 use Rattle.grammar.proofs.SoundComp.{comparison_fits}
-use Rattle.grammar_places.proofs.Sound.{op_fits, NextOk, next_ok}
+use Rattle.grammar.proofs.SoundQuery.{op_fits, NextOk, next_ok}
 use Rattle.grammar_places.proofs.Numbers.{numbered, by_number}
 use Rattle.grammar_places.proofs.Begun as B
 use Rattle.grammar_places.proofs.Begun.{Completable, complete_stop, complete_then, thens, Read, read, at_number, Begun, here, in_first, in_second, begun_as, Joins}
@@ -81,65 +73,65 @@ module _ (q : List ℕ) where
   F = numbered q
 
   -- what follows a comparison
-  abbrev JoinBegun : Bool → ℕ → JoinResult → Type 0
-  JoinBegun g i (HasJoin j u) = Unit
-  JoinBegun g i (NoJoin x) = Begun q (after g) i x
+  abbrev JoinBegun : Bool → ℕ → Result (Join × Token) ℕ → Type 0
+  JoinBegun g i (Ok (j, u)) = Unit
+  JoinBegun g i (Err x) = Begun q (after g) i x
 
-  end_by : (i : ℕ) (d : Bool) → JoinBegun false i (pick d (HasJoin Last (F i)) (NoJoin i))
+  end_by : (i : ℕ) (d : Bool) → JoinBegun false i (pick d (Ok (Last, F i)) (Err i))
   end_by i true = tt
   end_by i false = here q (c_after false) i
 
   closed : Joins (λ s. is (Symbol Close)) groups (after true)
   closed s t m e f h = join stop (join f h)
 
-  close_end : (i : ℕ) (d : Bool) → same (F i) (Symbol Close) ≡ true → JoinBegun true i (pick d (HasJoin Last (F (suc i))) (NoJoin (suc i)))
+  close_end : (i : ℕ) (d : Bool) → same (F i) (Symbol Close) ≡ true → JoinBegun true i (pick d (Ok (Last, F (suc i))) (Err (suc i)))
   close_end i true c = tt
   close_end i false c = in_second q (r_mark q Close i c) (here q complete_stop (suc i)) closed
 
-  open_by : (i : ℕ) (o : BoolOp) (d : Bool) → same (F i) (Symbol Close) ≡ true → joining (F (suc i)) ≡ With o
-      → JoinBegun true i (pick d (HasJoin (Outer o) (F (suc (suc (suc i))))) (NoJoin (suc (suc i))))
+  open_by : (i : ℕ) (o : BoolOp) (d : Bool) → same (F i) (Symbol Close) ≡ true → joining (F (suc i)) ≡ Some o
+      → JoinBegun true i (pick d (Ok (Outer o, F (suc (suc (suc i))))) (Err (suc (suc i))))
   open_by i o true c e = tt
   open_by i o false c e =
       let r : Read q (λ s. bool_op) (suc i) (suc (suc i)) = read q (s_bool_op q) (suc i) (suc (suc i)) (op_fits S (F (suc i)) o e) in
       let b : Begun q groups (suc i) (suc (suc i)) = in_second q r (here q c_bracketed (suc (suc i))) (λ s t m e f h. more (join f h) stop) in
       in_second q (r_mark q Close i c) b closed
 
-  group_by : (i : ℕ) (k : Joining) → same (F i) (Symbol Close) ≡ true → joining (F (suc i)) ≡ k → JoinBegun true i (GQ.outer_by S (F (suc i)) k)
+  group_by : (i : ℕ) (k : Option BoolOp) → same (F i) (Symbol Close) ≡ true → joining (F (suc i)) ≡ k → JoinBegun true i (GQ.outer_by S (F (suc i)) k)
   unfolding GQ.outer_by GQ.open_group GQ.at_end
-  group_by i (With o) c e = open_by i o (same (F (suc (suc i))) (Symbol Open)) c e
-  group_by i NoBoolOp c e = close_end i (same (F (suc i)) End) c
+  group_by i (Some o) c e = open_by i o (same (F (suc (suc i))) (Symbol Open)) c e
+  group_by i None c e = close_end i (same (F (suc i)) End) c
 
-  outer_by_law : (i : ℕ) (d : Bool) → same (F i) (Symbol Close) ≡ d → JoinBegun true i (pick d (GQ.after_group S (F (suc i))) (NoJoin i))
+  outer_by_law : (i : ℕ) (d : Bool) → same (F i) (Symbol Close) ≡ d → JoinBegun true i (pick d (GQ.after_group S (F (suc i))) (Err i))
   unfolding GQ.after_group
   outer_by_law i true e = group_by i (joining (F (suc i))) e refl
   outer_by_law i false e = here q (c_after true) i
 
-  join_by_law : (g : Bool) (i : ℕ) (k : Joining) → JoinBegun g i (GQ.join_by S g (F i) k)
+  join_by_law : (g : Bool) (i : ℕ) (k : Option BoolOp) → JoinBegun g i (GQ.join_by S g (F i) k)
   unfolding GQ.join_by GQ.outer GQ.at_end
-  join_by_law g i (With o) = tt
-  join_by_law true i NoBoolOp = outer_by_law i (same (F i) (Symbol Close)) refl
-  join_by_law false i NoBoolOp = end_by i (same (F i) End)
+  join_by_law g i (Some o) = tt
+  join_by_law true i None = outer_by_law i (same (F i) (Symbol Close)) refl
+  join_by_law false i None = end_by i (same (F i) End)
 
   join_begun : (g : Bool) (i : ℕ) → JoinBegun g i (GQ.join_after S g (F i))
   unfolding GQ.join_after
   join_begun g i = join_by_law g i (joining (F i))
 
   -- a comparison with what follows it
-  abbrev NextBegun : Bool → ℕ → NextResult → Type 0
-  NextBegun g i (HasNext c j u) = Unit
-  NextBegun g i (NoNext f) = Begun q (rest g) i (reach f)
+  abbrev NextBegun : Bool → ℕ → Result (Comparison × Join × Token) Fault → Type 0
+  NextBegun g i (Ok (c, j, u)) = Unit
+  NextBegun g i (Err f) = Begun q (rest g) i (reach f)
 
-  next_join : (g : Bool) (i m : ℕ) (c : Comparison) (r : JoinResult) → Read q (λ s. property_comp_rule s) i m → JoinBegun g m r → NextBegun g i (GQ.next_of c r)
+  next_join : (g : Bool) (i m : ℕ) (c : Comparison) (r : Result (Join × Token) ℕ) → Read q (λ s. property_comp_rule s) i m → JoinBegun g m r → NextBegun g i (GQ.next_of c r)
   unfolding GQ.next_of
-  next_join g i m c (HasJoin j u) f b = tt
-  next_join g i m c (NoJoin x) f b = in_second q f b (compared g)
+  next_join g i m c (Ok (j, u)) f b = tt
+  next_join g i m c (Err x) f b = in_second q f b (compared g)
 
-  next_by_law : (g : Bool) (i : ℕ) (r : ComparisonResult) → GC.property_comp S (F i) ≡ r → CompBegun q i r → NextBegun g i (GQ.next_by S g r)
+  next_by_law : (g : Bool) (i : ℕ) (r : Result (Comparison × Token) Fault) → GC.property_comp S (F i) ≡ r → CompBegun q i r → NextBegun g i (GQ.next_by S g r)
   unfolding GQ.next_by
-  next_by_law g i (HasComparison c u) e b =
+  next_by_law g i (Ok (c, u)) e b =
       at_number q (λ s. property_comp_rule s) (s_comparison q) i u (comparison_fits S (F i) u c e) (λ (t : Token). NextBegun g i (GQ.next_of c (GQ.join_after S g t)))
       (λ m f. next_join g i m c (GQ.join_after S g (F m)) (read q (s_comparison q) i m f) (join_begun g m))
-  next_by_law g i (NoComparison f) e b = in_first q b (c_after g) (compared g)
+  next_by_law g i (Err f) e b = in_first q b (c_after g) (compared g)
 
   next_begun : (g : Bool) (i : ℕ) → NextBegun g i (GQ.next_comparison S g (F i))
   unfolding GQ.next_comparison
@@ -170,26 +162,23 @@ module _ (q : List ℕ) where
       s_regrouped : B.Sames q regrouped
       s_regrouped T = thens (s_comparison q T) (thens (s_mark q T Close) (thens (s_bool_op q T) (s_mark q T Open)))
 
-  no_last : {A : Type 0} → last_join Last ≡ false → A
-  no_last e = let z : ◌≡◌ {A = ℕ} 0 1 = cc in absurd (omega arith)
-
-  joined_begun : (n : ℕ) (g : Bool) (i : ℕ) (u : Token) (c : Comparison) (j : Join) → last_join j ≡ false → NextOk S g (F i) (HasNext c j u)
+  joined_begun : (n : ℕ) (g : Bool) (i : ℕ) (u : Token) (c : Comparison) (j : Join) → last_join j ≡ false → NextOk S g (F i) (Ok (c, j, u))
       → ((k : ℕ) → QueryBegun g k (GQ.query_from n S g (F k))) → QueryBegun g i (GQ.before c j (GQ.query_from n S g u))
-  joined_begun n g i u c Last e f again = no_last e
+  joined_begun n g i u c Last e f again = absurd (cc)
   joined_begun n true i u c (Inner o) e f again = inner_begun n true i c again o f.0 u f.1 f.2
   joined_begun n false i u c (Inner o) e f again = inner_begun n false i c again o f.0 u f.1 f.2
   joined_begun n true i u c (Outer o) e f again = outer_begun n i c again o f.0 u f.1 f.2
   joined_begun n false i u c (Outer o) e f again = absurd f.2
 
-  last_by : (n : ℕ) (g : Bool) (i : ℕ) (u : Token) (c : Comparison) (j : Join) (d : Bool) → last_join j ≡ d → NextOk S g (F i) (HasNext c j u)
+  last_by : (n : ℕ) (g : Bool) (i : ℕ) (u : Token) (c : Comparison) (j : Join) (d : Bool) → last_join j ≡ d → NextOk S g (F i) (Ok (c, j, u))
       → ((k : ℕ) → QueryBegun g k (GQ.query_from n S g (F k))) → QueryBegun g i (elim d [ true ↦ good (GQ.only c) | false ↦ GQ.before c j (GQ.query_from n S g u) ])
   last_by n g i u c j true e f again = tt
   last_by n g i u c j false e f again = joined_begun n g i u c j e f again
 
-  query_by : (n : ℕ) (g : Bool) (i : ℕ) (r : NextResult) → NextOk S g (F i) r → NextBegun g i r → ((k : ℕ) → QueryBegun g k (GQ.query_from n S g (F k)))
-      → QueryBegun g i (elim r [ NoNext f ↦ bad f | HasNext c j u ↦ elim (last_join j) [ true ↦ good (GQ.only c) | false ↦ GQ.before c j (GQ.query_from n S g u) ] ])
-  query_by n g i (NoNext f) k b again = b
-  query_by n g i (HasNext c j u) k b again = last_by n g i u c j (last_join j) refl k again
+  query_by : (n : ℕ) (g : Bool) (i : ℕ) (r : Result (Comparison × Join × Token) Fault) → NextOk S g (F i) r → NextBegun g i r → ((k : ℕ) → QueryBegun g k (GQ.query_from n S g (F k)))
+      → QueryBegun g i (elim r [ Err f ↦ bad f | Ok (c, j, u) ↦ elim (last_join j) [ true ↦ good (GQ.only c) | false ↦ GQ.before c j (GQ.query_from n S g u) ] ])
+  query_by n g i (Err f) k b again = b
+  query_by n g i (Ok (c, j, u)) k b again = last_by n g i u c j (last_join j) refl k again
 
   full : (g : Bool) (i : ℕ) (d : Bool) → opening (F i) ≡ d → QueryBegun g i (bad (limited d i))
   full g i true o = in_first q (opened q i o) (c_after g) (compared g)

@@ -1,4 +1,5 @@
 -- A fault is found exactly in an instance that doesn't conform: 30 exactly where it is too long, 31 exactly where it isn't and doesn't conform.
+use Rattle.std.specs.Prelude.{Ok, Err}
 use Prim.Native.Nat.{ℕ, suc, ◌+◌, ◌≤◌, ◌<◌}
 use mathlib.Core.List.{List, [], ◌∷◌}
 use mathlib.Core.Bool.{Bool, true, false, ◌&&◌}
@@ -18,12 +19,12 @@ use Rattle.record.specs.declared.kind.Kind.{Kind}
 use Rattle.record.specs.declared.kind.Kind.TheVariants.{Unknown, Scalar, Array}
 use Rattle.table.specs.Table.{FreeOfFaults}
 use Rattle.table.specs.Properties.{kinds_of}
+use Rattle.instance.specs.declared.conform.InstanceRefusal.{InstanceRefusal}
+use Rattle.instance.specs.declared.conform.InstanceFault.{InstanceFault}
 use Rattle.instance.specs.declared.conform.InstanceFault.TheVariants.{TooLong, Nonconforming}
-use Rattle.instance.specs.declared.conform.Conformity.{Conformity}
-use Rattle.instance.specs.declared.conform.Conformity.TheVariants.{Conforming, Fault}
 use Rattle.instance.specs.Body.{value_fits}
 use Rattle.instance.specs.Conforms.{Slot, count, Elements, HasArray, HasKind, Lays, Conforms}
-use Rattle.instance.specs.Fault.{fault_at, is_null, slot_fits, elements_fit, array_fits, body_fits, record_fits, further_fault, fault_in, fault_under, conformity}
+use Rattle.instance.specs.Fault.{Conformity, conforming, too_long, nonconforming, fault_at, is_null, slot_fits, elements_fit, array_fits, body_fits, record_fits, further_fault, fault_in, fault_under, conformity}
 use Rattle.instance.proofs.Types.{says_value}
 
 says_slot : {P : Type 0} (k kind : ℕ) (s : List ℕ) (rules : Bool) → Says rules P → Says (slot_fits k kind s rules) (Slot k kind s P)
@@ -74,11 +75,14 @@ says_record k kind s = says_slot k kind s (body_fits (kind_of k) s) (says_kind (
 
 -- an answer that finds no fault exactly where a fact holds
 record Clears (c : Conformity) (P : Type 0) : Type 0 where
-  to : c ≡ Conforming → P
-  from : P → c ≡ Conforming
+  to : c ≡ conforming → P
+  from : P → c ≡ conforming
 
-pub no_place : (p : ℕ) → fault_at p ≡ Conforming → ⊥
-no_place p e = let z : ◌≡◌ {A = ℕ} 0 1 = cc in omega arith
+refused : (x : InstanceRefusal) → ◌≡◌ {A = Conformity} (Err x) conforming → ⊥
+refused x e = let z : ◌≡◌ {A = ℕ} 0 1 = cc in omega arith
+
+pub no_place : (p : ℕ) → fault_at p ≡ conforming → ⊥
+no_place p e = refused (nonconforming p) e
 
 clears_further : (rs : Records) → Clears (further_fault rs) (Fit rs)
 unfolding further_fault Fit
@@ -99,37 +103,43 @@ clears_in i (k ∷ ks) (broken place) = record { to = no_place place; from = λ 
 clears_in i (k ∷ ks) ended = record { to = no_place (length i); from = λ h. absurd h }
 
 -- under the kinds of a table's properties
-no_fault_lays : (ks i : List ℕ) → fault_under ks i ≡ Conforming → (length i ≤ 65535) × Lays i ks (records i 0)
+no_fault_lays : (ks i : List ℕ) → fault_under ks i ≡ conforming → (length i ≤ 65535) × Lays i ks (records i 0)
 unfolding fault_under
 no_fault_lays ks i = go (ltb 65535 (length i)) refl
   where
-    go : (b : Bool) → ltb 65535 (length i) ≡ b → pick b (Fault TooLong 0) (fault_in i ks (records i 0)) ≡ Conforming
+    go : (b : Bool) → ltb 65535 (length i) ≡ b → pick b (Err too_long) (fault_in i ks (records i 0)) ≡ conforming
         → (length i ≤ 65535) × Lays i ks (records i 0)
     go true f e = absurd (let z : ◌≡◌ {A = ℕ} 0 1 = cc in omega arith)
     go false f e = (ltb-false 65535 (length i) f, (clears_in i ks (records i 0)).to e)
 
-lays_no_fault : (ks i : List ℕ) → length i ≤ 65535 → Lays i ks (records i 0) → fault_under ks i ≡ Conforming
+lays_no_fault : (ks i : List ℕ) → length i ≤ 65535 → Lays i ks (records i 0) → fault_under ks i ≡ conforming
 unfolding fault_under
 lays_no_fault ks i h l = rw (le-ltb 65535 (length i) h) ((clears_in i ks (records i 0)).from l)
 
 -- no fault exactly where the instance conforms
-pub no_fault_conforms : (t i : List ℕ) → FreeOfFaults t → conformity t i ≡ Conforming → Conforms t i
+pub no_fault_conforms : (t i : List ℕ) → FreeOfFaults t → conformity t i ≡ conforming → Conforms t i
 no_fault_conforms t i f e = let w = no_fault_lays (kinds_of t) i e in record { free = f; short = w.0; lays = w.1 }
 
-pub conforms_no_fault : (t i : List ℕ) → Conforms t i → conformity t i ≡ Conforming
+pub conforms_no_fault : (t i : List ℕ) → Conforms t i → conformity t i ≡ conforming
 conforms_no_fault t i c = lays_no_fault (kinds_of t) i c.short c.lays
 
 -- number 30 exactly where it is too long
+abbrev pub long : InstanceFault → Type 0
+long TooLong = Unit
+long Nonconforming = ⊥
+
 abbrev pub IsLong : Conformity → Type 0
-IsLong Conforming = ⊥
-IsLong (Fault TooLong place) = Unit
-IsLong (Fault Nonconforming place) = ⊥
+IsLong (Ok all) = ⊥
+IsLong (Err refusal) = long refusal.cause
 
 -- number 31
+abbrev pub wrong : InstanceFault → Type 0
+wrong TooLong = ⊥
+wrong Nonconforming = Unit
+
 abbrev pub IsWrong : Conformity → Type 0
-IsWrong Conforming = ⊥
-IsWrong (Fault TooLong place) = ⊥
-IsWrong (Fault Nonconforming place) = Unit
+IsWrong (Ok all) = ⊥
+IsWrong (Err refusal) = wrong refusal.cause
 
 not_long : (b : Bool) (c : Conformity) (p : ℕ) → (IsLong c → ⊥) → IsLong (pick b c (fault_at p)) → ⊥
 not_long true c p h e = h e
@@ -148,12 +158,12 @@ pub long_exactly : (t i : List ℕ) → IsLong (conformity t i) ↔ (65535 < len
 unfolding fault_under
 long_exactly t i = (go (ltb 65535 (length i)) refl, λ h. rw (lt-ltb 65535 (length i) h) tt)
   where
-    go : (b : Bool) → ltb 65535 (length i) ≡ b → IsLong (pick b (Fault TooLong 0) (fault_in i (kinds_of t) (records i 0))) → 65535 < length i
+    go : (b : Bool) → ltb 65535 (length i) ≡ b → IsLong (pick b (Err too_long) (fault_in i (kinds_of t) (records i 0))) → 65535 < length i
     go true f e = ltb-true 65535 (length i) f
     go false f e = absurd (never_long i (kinds_of t) (records i 0) e)
 
 -- its place is 0
-pub long_place : (t i : List ℕ) → 65535 < length i → conformity t i ≡ Fault TooLong 0
+pub long_place : (t i : List ℕ) → 65535 < length i → conformity t i ≡ Err too_long
 unfolding fault_under
 long_place t i h = rw (lt-ltb 65535 (length i) h)
 
@@ -169,11 +179,17 @@ wrong_exactly t i free = (there (conformity t i) refl, λ h. back (conformity t 
         small false f = ltb-false 65535 (length i) f
 
     there : (c : Conformity) → conformity t i ≡ c → IsWrong c → (length i ≤ 65535) × (Conforms t i → ⊥)
-    there Conforming e h = absurd h
-    there (Fault TooLong p) e h = absurd h
-    there (Fault Nonconforming p) e h = (short (λ l. rw e at l), λ k. no_place p (sym e ∙ conforms_no_fault t i k))
+    there (Ok all) e h = absurd h
+    there (Err x) e h = (short (λ l. not_both x.cause h (rw e at l)), λ k. refused x (sym e ∙ conforms_no_fault t i k))
+      where
+        not_both : (f : InstanceFault) → wrong f → long f → ⊥
+        not_both TooLong h l = h
+        not_both Nonconforming h l = l
 
     back : (c : Conformity) → conformity t i ≡ c → length i ≤ 65535 → (Conforms t i → ⊥) → IsWrong c
-    back Conforming e l n = absurd (n (no_fault_conforms t i free e))
-    back (Fault TooLong p) e l n = absurd (let g = (long_exactly t i).0 (rw e tt) in omega arith)
-    back (Fault Nonconforming p) e l n = tt
+    back (Ok all) e l n = absurd (n (no_fault_conforms t i free e))
+    back (Err x) e l n = by_cause x.cause (λ h. let g = (long_exactly t i).0 (rw e h) in omega arith)
+      where
+        by_cause : (f : InstanceFault) → (long f → ⊥) → wrong f
+        by_cause TooLong h = h tt
+        by_cause Nonconforming h = tt

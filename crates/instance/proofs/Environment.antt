@@ -20,8 +20,7 @@ use Rattle.record.proofs.Records.{whole_in_law, records_whole, records_broken, r
 use Rattle.record.proofs.Shift.{moved, part_behind, record_behind}
 use Rattle.record.proofs.Append.{part_stays, record_stays}
 use Rattle.record.proofs.Written.{read_first, read_body}
-use Rattle.table.specs.Properties.{kinds_of, find_property}
-use Rattle.table.specs.declared.lookup.Found.TheVariants.{Property}
+use Rattle.table.specs.Properties.{kinds_of, found, find_property}
 use Rattle.table.proofs.Find.{found_at}
 use Rattle.instance.specs.Conforms.{Slot, HasKind, Lays, Conforms}
 use Rattle.instance.specs.Start.{next_of, next_at, start_of}
@@ -72,7 +71,7 @@ pub entry_of : (t i : List ℕ) (n k : ℕ) → get_elem? (kinds_of t) n ≡ som
 unfolding environment_under
 entry_of t i n k e = rw e
 
-pub entry_found_law : (t i name : List ℕ) (n k : ℕ) → find_property t name ≡ Property n k → environment t i n ≡ property k (value_at k i (start_of i n))
+pub entry_found_law : (t i name : List ℕ) (n k : ℕ) → find_property t name ≡ found n k → environment t i n ≡ property k (value_at k i (start_of i n))
 entry_found_law t i name n k e = entry_of t i n k (found_at t name n k e).kind
 
 -- records appended change no start and no value

@@ -1,4 +1,5 @@
 -- The place of 31 is the start of a record, the first at fault: the ones before it are right, and it isn't.
+use Rattle.std.specs.Prelude.{Err}
 use Prim.Native.Nat.{ℕ, zero, suc, ◌-◌, ◌≤◌, ◌<◌}
 use mathlib.Core.List.{List, [], ◌∷◌}
 use mathlib.Core.Bool.{Bool, true, false}
@@ -17,10 +18,10 @@ use Rattle.record.specs.declared.read.RecordAt.{RecordAt}
 use Rattle.record.specs.declared.read.RecordAt.TheVariants.{Whole, Broken, End}
 use Rattle.record.proofs.Records.{View, ends, breaks, stands, view, whole_in_law, records_whole, records_broken, records_end}
 use Rattle.table.specs.Properties.{kinds_of}
+use Rattle.instance.specs.declared.conform.InstanceRefusal.{InstanceRefusal}
 use Rattle.instance.specs.declared.conform.InstanceFault.TheVariants.{TooLong, Nonconforming}
-use Rattle.instance.specs.declared.conform.Conformity.TheVariants.{Conforming, Fault}
 use Rattle.instance.specs.Conforms.{Slot, HasKind}
-use Rattle.instance.specs.Fault.{fault_at, record_fits, further_fault, fault_in, fault_under, conformity}
+use Rattle.instance.specs.Fault.{Conformity, conforming, too_long, fault_at, record_fits, further_fault, fault_in, fault_under, conformity}
 use Rattle.instance.specs.Start.{start_of}
 use Rattle.instance.proofs.Decides.{says_record}
 
@@ -43,10 +44,19 @@ pub record FirstFault (ks i : List ℕ) (place : ℕ) : Type 0 where
   pub before : (n : ℕ) → n < number → Right ks i n
   pub wrong : Right ks i number → ⊥
 
-same_place : {p o : ℕ} → fault_at p ≡ fault_at o → o ≡ p
-same_place e = cc
+given : {x y : InstanceRefusal} → ◌≡◌ {A = Conformity} (Err x) (Err y) → x ≡ y
+given e = cc
 
-not_fault : {p : ℕ} → Conforming ≡ fault_at p → ⊥
+same_place : {p o : ℕ} → fault_at p ≡ fault_at o → o ≡ p
+same_place e = sym (ap (λ (x : InstanceRefusal). x.place) (given e))
+
+not_too_long : {p : ℕ} → ◌≡◌ {A = Conformity} (Err too_long) (fault_at p) → ⊥
+not_too_long e = distinct (ap (λ (x : InstanceRefusal). x.cause) (given e))
+  where
+    distinct : TooLong ≡ Nonconforming → ⊥
+    distinct f = let z : ◌≡◌ {A = ℕ} 0 1 = cc in omega arith
+
+not_fault : {p : ℕ} → conforming ≡ fault_at p → ⊥
 not_fault e = let z : ◌≡◌ {A = ℕ} 0 1 = cc in omega arith
 
 -- what is left of the kinds at a number
@@ -151,10 +161,10 @@ module _ (ks i : List ℕ) (p : ℕ) where
   first_from (suc f) n h [] e l b g = first_further n (λ x y. first_from f (suc n) (omega arith)) e l b (record_at i (start_of i n)) refl g
   first_from (suc f) n h (k ∷ rest) e l b g = first_property_law n k rest (λ x y. first_from f (suc n) (omega arith)) e l b (record_at i (start_of i n)) refl g
 
-pub first_fault : (t i : List ℕ) (place : ℕ) → conformity t i ≡ Fault Nonconforming place → FirstFault (kinds_of t) i place
+pub first_fault : (t i : List ℕ) (place : ℕ) → conformity t i ≡ fault_at place → FirstFault (kinds_of t) i place
 unfolding fault_under start_of First
 first_fault t i place = go (ltb 65535 (length i))
   where
-    go : (b : Bool) → pick b (Fault TooLong 0) (fault_in i (kinds_of t) (records i 0)) ≡ fault_at place → FirstFault (kinds_of t) i place
-    go true e = absurd (let z : ◌≡◌ {A = ℕ} 0 1 = cc in omega arith)
+    go : (b : Bool) → pick b (Err too_long) (fault_in i (kinds_of t) (records i 0)) ≡ fault_at place → FirstFault (kinds_of t) i place
+    go true e = absurd (not_too_long e)
     go false e = first_from (kinds_of t) i place (suc (length i)) 0 (omega arith) (kinds_of t) refl (omega arith) (λ m l. absurd (omega arith)) e

@@ -1,4 +1,5 @@
 -- One law for each way out of the functions of src/.
+use Rattle.std.specs.Prelude.{Ok, Err}
 use Prim.Native.Nat.{ℕ, zero, suc, ◌+◌, ◌-◌, ◌≤◌, ◌<◌}
 use mathlib.Core.List.{List}
 use mathlib.Core.Bool.{Bool, true, false, not}
@@ -7,31 +8,23 @@ use native.Mathlib.Omega.{arith}
 use native.Mathlib.Numerals.{add-one}
 use lib.ListN.{length}
 use lib.Dec.{eqb}
-use borrow.Author.Tests.{lt-ltb, le-ltb, eq-eqb, ne_eqb, not-true, not-false}
+use borrow.Author.Tests.{lt-ltb, le-ltb, not-true, not-false}
 use Rattle.base.specs.Pick.{pick}
 use Rattle.base.specs.Part.{part}
 use Rattle.base.proofs.Says.{apart}
-use Rattle.record.specs.Record.{record_at, records}
-use Rattle.record.specs.Kind.{kind_of}
+use Rattle.record.specs.Record.{record_at, Records, item, broken, ended, records}
 use Rattle.record.specs.declared.read.RecordAt.{RecordAt}
 use Rattle.record.specs.declared.read.RecordAt.TheVariants.{Whole, Broken, End}
 use Rattle.record.specs.declared.kind.Family.{Family}
 use Rattle.record.specs.declared.kind.Family.TheVariants.{Boolean, Integer, Real, Text, Char16, Octets, Datetime, Reference}
 use Rattle.record.specs.declared.kind.ValueType.{ValueType}
-use Rattle.record.specs.declared.kind.Kind.{Kind}
-use Rattle.record.specs.declared.kind.Kind.TheVariants.{Scalar}
-use Rattle.record.proofs.Records.{records_whole, records_broken, records_end}
 use Rattle.datetime.specs.Text.{has_colon}
 use Rattle.datetime.specs.Unknown.{known}
 use Rattle.datetime.specs.Datetime.{says_datetime, span_to, sorted, datetime_of}
 use Rattle.datetime.specs.declared.Span.{Span}
 use Rattle.datetime.specs.declared.Datetime.TheVariants.{Malformed}
-use Rattle.instance.specs.declared.conform.InstanceFault.TheVariants.{TooLong}
-use Rattle.instance.specs.declared.conform.Conformity.{Conformity}
-use Rattle.instance.specs.declared.conform.Conformity.TheVariants.{Conforming, Fault}
-use Rattle.instance.specs.declared.conform.Step.TheVariants.{Next, Wrong}
 use Rattle.instance.specs.Body.{is_datetime, datetime_fits, is_numeric, family_fits, value_fits}
-use Rattle.instance.specs.Fault.{fault_at, is_null, slot_fits, elements_fit, body_fits, record_fits, further_fault, fault_in, fault_under, step_at}
+use Rattle.instance.specs.Fault.{Conformity, conforming, too_long, nonconforming, fault_at, slot_fits, elements_fit, record_fits, further_fault, fault_in, fault_under, step_at}
 use Rattle.instance.specs.Start.{next_at, start_of}
 
 -- a datetime
@@ -55,47 +48,23 @@ numeric_width Octets width s e = absurd (apart e)
 numeric_width Datetime width s e = absurd (apart e)
 numeric_width Reference width s e = absurd (apart e)
 
-numeric_fits : (t : ValueType) (s : List ℕ) {r : Bool} → r ≡ is_numeric t.family → r ≡ true → eqb (length s) t.width ≡ value_fits t s
+pub numeric_fits : (t : ValueType) (s : List ℕ) {r : Bool} → r ≡ is_numeric t.family → r ≡ true → eqb (length s) t.width ≡ value_fits t s
 numeric_fits t s e h = numeric_width t.family t.width s (sym e ∙ h)
 
-pub body_numeric : (s : List ℕ) {w : Kind} (t : ValueType) → w ≡ Scalar t → {r : Bool} → r ≡ is_numeric t.family → r ≡ true → eqb (length s) t.width ≡ body_fits w s
-body_numeric s t e er h = numeric_fits t s er h ∙ sym (ap (λ (v : Kind). body_fits v s) e)
-
--- the record of a property or an element, whose body keeps the value's rules or not
-module _ (k kind : ℕ) (s : List ℕ) (rules : Bool) (x : Bool) (e : x ≡ is_null kind s) where
-  pub slot_null : x ≡ true → true ≡ slot_fits k kind s rules
-  slot_null h = rw (← e, h)
-
-  pub slot_other : x ≡ false → (kind ≡ k → ⊥) → false ≡ slot_fits k kind s rules
-  slot_other h n = rw (← e, h, ne_eqb _ _ n)
-
-  slot_rules : x ≡ false → kind ≡ k → rules ≡ slot_fits k kind s rules
-  slot_rules h n = rw (← e, h, eq-eqb _ _ n)
-
-module _ (k kind : ℕ) (s : List ℕ) (x : Bool) (e : x ≡ is_null kind s) (h : x ≡ false) (same : kind ≡ k) where
-  pub slot_numeric : (t : ValueType) {r : Bool} → r ≡ is_numeric t.family → r ≡ true → eqb (length s) t.width ≡ slot_fits k kind s (value_fits t s)
-  slot_numeric t er f = numeric_fits t s er f ∙ slot_rules k kind s (value_fits t s) x e h same
-
-  pub slot_value : (t : ValueType) {y : Bool} → y ≡ value_fits t s → y ≡ slot_fits k kind s (value_fits t s)
-  slot_value t ey = ey ∙ slot_rules k kind s (value_fits t s) x e h same
-
-  pub slot_body : {w : Kind} → w ≡ kind_of k → {y : Bool} → y ≡ body_fits w s → y ≡ record_fits k kind s
-  slot_body ew ey = ey ∙ ap (λ (v : Kind). body_fits v s) ew ∙ slot_rules k kind s (body_fits (kind_of k) s) x e h same
-
 -- the elements of an array
-module _ (s : List ℕ) (k : ℕ) (t : ValueType) (at n : ℕ) (w : Bool) (inv : w ≡ elements_fit k t s n (records s at)) (r : RecordAt) (e : r ≡ record_at s at) where
-  pub elements_broken : r ≡ Broken → false ≡ w
+module _ (s : List ℕ) (k : ℕ) (t : ValueType) (n : ℕ) (w : Bool) (rs : Records) (inv : w ≡ elements_fit k t s n rs) where
+  pub elements_broken : (place : ℕ) → rs ≡ broken place → false ≡ w
   unfolding elements_fit
-  elements_broken f = sym (inv ∙ rw (records_broken s at (sym e ∙ f)))
+  elements_broken place f = sym (inv ∙ rw f)
 
-  pub elements_end : r ≡ End → true ≡ w
+  pub elements_end : rs ≡ ended → true ≡ w
   unfolding elements_fit
-  elements_end f = sym (inv ∙ rw (records_end s at (sym e ∙ f)))
+  elements_end f = sym (inv ∙ rw f)
 
-  module _ (kind start len next : ℕ) (f : r ≡ Whole kind start len next) where
+  module _ (place kind start len : ℕ) (rest : Records) (f : rs ≡ item place kind start len rest) where
     pub elements_many : 256 ≤ n → false ≡ w
     unfolding elements_fit
-    elements_many h = sym (inv ∙ rw (records_whole s at kind start len next (sym e ∙ f), le-ltb _ _ h))
+    elements_many h = sym (inv ∙ rw (f, le-ltb _ _ h))
 
     module _ (h : n < 256) (b : List ℕ) (g : b ≡ part s start len) (x : Bool) (y : x ≡ slot_fits k kind b (value_fits t b)) where
       told : x ≡ slot_fits k kind (part s start len) (value_fits t (part s start len))
@@ -103,19 +72,19 @@ module _ (s : List ℕ) (k : ℕ) (t : ValueType) (at n : ℕ) (w : Bool) (inv :
 
       pub elements_bad : not x ≡ true → false ≡ w
       unfolding elements_fit
-      elements_bad z = sym (inv ∙ rw (records_whole s at kind start len next (sym e ∙ f), lt-ltb _ _ h, ← told, not-true x z))
+      elements_bad z = sym (inv ∙ rw (f, lt-ltb _ _ h, ← told, not-true x z))
 
-      pub elements_next : not x ≡ false → w ≡ elements_fit k t s (n + 1) (records s next)
+      pub elements_next : not x ≡ false → w ≡ elements_fit k t s (n + 1) rest
       unfolding elements_fit
-      elements_next z = inv ∙ rw (records_whole s at kind start len next (sym e ∙ f), lt-ltb _ _ h, ← told, not-false x z)
+      elements_next z = inv ∙ rw (f, lt-ltb _ _ h, ← told, not-false x z)
 
 -- the record that should start at a place
 module _ (s : List ℕ) (at k : ℕ) (r : RecordAt) (e : r ≡ record_at s at) where
-  pub step_broken : r ≡ Broken → Wrong at ≡ step_at s at k
+  pub step_broken : r ≡ Broken → Err (nonconforming at) ≡ step_at s at k
   unfolding step_at
   step_broken f = rw (← e, f)
 
-  pub step_end : r ≡ End → Wrong (length s) ≡ step_at s at k
+  pub step_end : r ≡ End → Err (nonconforming (length s)) ≡ step_at s at k
   unfolding step_at
   step_end f = rw (← e, f)
 
@@ -123,31 +92,31 @@ module _ (s : List ℕ) (at k : ℕ) (r : RecordAt) (e : r ≡ record_at s at) w
     judged : x ≡ record_fits k kind (part s start len)
     judged = y ∙ rw g
 
-    pub step_next : x ≡ true → Next next ≡ step_at s at k
+    pub step_next : x ≡ true → Ok next ≡ step_at s at k
     unfolding step_at
     step_next z = rw (← e, f, ← judged, z)
 
-    pub step_wrong : x ≡ false → Wrong at ≡ step_at s at k
+    pub step_wrong : x ≡ false → Err (nonconforming at) ≡ step_at s at k
     unfolding step_at
     step_wrong z = rw (← e, f, ← judged, z)
 
 -- further records
-module _ (i : List ℕ) (at : ℕ) (w : Conformity) (inv : w ≡ further_fault (records i at)) (r : RecordAt) (e : r ≡ record_at i at) where
-  pub further_broken : r ≡ Broken → (x : Conformity) → x ≡ fault_at at → x ≡ w
+module _ (w : Conformity) (rs : Records) (inv : w ≡ further_fault rs) where
+  pub further_broken : (place : ℕ) → rs ≡ broken place → fault_at place ≡ w
   unfolding further_fault
-  further_broken f x y = y ∙ sym (inv ∙ rw (records_broken i at (sym e ∙ f)))
+  further_broken place f = sym (inv ∙ rw f)
 
-  pub further_end : r ≡ End → Conforming ≡ w
+  pub further_end : rs ≡ ended → conforming ≡ w
   unfolding further_fault
-  further_end f = sym (inv ∙ rw (records_end i at (sym e ∙ f)))
+  further_end f = sym (inv ∙ rw f)
 
-  pub further_next : (kind start len next : ℕ) → r ≡ Whole kind start len next → w ≡ further_fault (records i next)
+  pub further_next : (place kind start len : ℕ) (rest : Records) → rs ≡ item place kind start len rest → w ≡ further_fault rest
   unfolding further_fault
-  further_next kind start len next f = inv ∙ rw (records_whole i at kind start len next (sym e ∙ f))
+  further_next place kind start len rest f = inv ∙ rw f
 
 -- the whole instance
 module _ (ks i : List ℕ) where
-  pub fault_long : 65535 < length i → Fault TooLong 0 ≡ fault_under ks i
+  pub fault_long : 65535 < length i → Err too_long ≡ fault_under ks i
   unfolding fault_under
   fault_long h = rw (lt-ltb 65535 (length i) h)
 

@@ -1,4 +1,5 @@
 -- The walk that notes where the properties' records start: what it has found and noted so far, and what is left. One law for each of its exits.
+use Rattle.std.specs.Prelude.{Result, Ok, Err}
 use Prim.Native.Nat.{ℕ, zero, suc, ◌+◌, ◌≤◌, ◌<◌}
 use mathlib.Core.List.{List, ◌∷◌}
 use mathlib.Core.Bool.{Bool, true, false}
@@ -9,16 +10,13 @@ use lib.ListN.{length, set, length-set}
 use borrow.Author.Tests.{lt-ltb, le-ltb}
 use Rattle.base.specs.Pick.{pick}
 use Rattle.base.specs.Part.{part}
-use Rattle.record.specs.Record.{record_at, follow, records}
+use Rattle.record.specs.Record.{record_at, Records, item, broken, ended, follow, records}
 use Rattle.record.specs.declared.read.RecordAt.{RecordAt}
 use Rattle.record.specs.declared.read.RecordAt.TheVariants.{Whole, Broken, End}
-use Rattle.record.proofs.Records.{records_at, records_whole, records_broken, records_end}
-use Rattle.record.proofs.Reach.{step_counts, step_room}
+use Rattle.record.proofs.Records.{records_at}
 use Rattle.table.specs.Properties.{kinds_in}
-use Rattle.instance.specs.declared.conform.Conformity.{Conformity}
-use Rattle.instance.specs.declared.conform.Step.{Step}
-use Rattle.instance.specs.declared.conform.Step.TheVariants.{Next, Wrong}
-use Rattle.instance.specs.Fault.{fault_at, record_fits, further_fault, fault_in, step_of, step_at}
+use Rattle.instance.specs.declared.conform.InstanceRefusal.{InstanceRefusal}
+use Rattle.instance.specs.Fault.{Conformity, nonconforming, record_fits, further_fault, fault_in, step_of, step_at}
 use Rattle.instance.specs.Start.{next_of, next_at, start_of}
 use Rattle.instance.specs.Noted.{noted, fitting, notes_under}
 use Rattle.instance.proofs.Laws.{start_next}
@@ -30,33 +28,33 @@ noted_length i zero notes = refl
 noted_length i (suc n) notes = length-set (noted i n notes) n (start_of i n) ∙ noted_length i n notes
 
 -- ---- what is told of the record at a place goes by the step there
-module _ {A : Type 0} (next : ℕ → A) (wrong : ℕ → A) where
-  by_step : Step → A
-  by_step (Next n) = next n
-  by_step (Wrong p) = wrong p
+module _ {A : Type 0} (next : ℕ → A) (wrong : InstanceRefusal → A) where
+  by_step : Result ℕ InstanceRefusal → A
+  by_step (Ok n) = next n
+  by_step (Err p) = wrong p
 
   by_step_law : (i : List ℕ) (k at : ℕ) (f : RecordAt → A)
-      → ((kind start len n : ℕ) → f (Whole kind start len n) ≡ pick (record_fits k kind (part i start len)) (next n) (wrong at))
-      → f Broken ≡ wrong at → f End ≡ wrong (length i) → f (record_at i at) ≡ by_step (step_at i at k)
+      → ((kind start len n : ℕ) → f (Whole kind start len n) ≡ pick (record_fits k kind (part i start len)) (next n) (wrong (nonconforming at)))
+      → f Broken ≡ wrong (nonconforming at) → f End ≡ wrong (nonconforming (length i)) → f (record_at i at) ≡ by_step (step_at i at k)
   unfolding step_at by_step
-  by_step_law i k at f whole broken end = go (record_at i at)
+  by_step_law i k at f whole cut end = go (record_at i at)
     where
-      chosen : (b : Bool) (n : ℕ) → pick b (next n) (wrong at) ≡ by_step (pick b (Next n) (Wrong at))
+      chosen : (b : Bool) (n : ℕ) → pick b (next n) (wrong (nonconforming at)) ≡ by_step (pick b (Ok n) (Err (nonconforming at)))
       chosen true n = refl
       chosen false n = refl
 
       go : (r : RecordAt) → f r ≡ by_step (step_of i at k r)
       go (Whole kind start len n) = whole kind start len n ∙ chosen (record_fits k kind (part i start len)) n
-      go Broken = broken
+      go Broken = cut
       go End = end
 
 -- the fault, and how many records fit
 module _ (i : List ℕ) (k : ℕ) (ks : List ℕ) (at : ℕ) where
-  fault_at_law : fault_in i (k ∷ ks) (records i at) ≡ by_step (λ n. fault_in i ks (records i n)) fault_at (step_at i at k)
+  fault_at_law : fault_in i (k ∷ ks) (records i at) ≡ by_step (λ n. fault_in i ks (records i n)) (λ x. Err x) (step_at i at k)
   unfolding fault_in
   fault_at_law =
       rw records_at
-      (by_step_law (λ n. fault_in i ks (records i n)) fault_at i k at (λ r. fault_in i (k ∷ ks) (follow at r (records i))) (λ kind start len n. refl) refl refl)
+      (by_step_law (λ n. fault_in i ks (records i n)) (λ x. Err x) i k at (λ r. fault_in i (k ∷ ks) (follow at r (records i))) (λ kind start len n. refl) refl refl)
 
   fitting_at : fitting i (k ∷ ks) (records i at) ≡ by_step (λ n. suc (fitting i ks (records i n))) (λ p. 0) (step_at i at k)
   unfolding fitting
@@ -64,95 +62,89 @@ module _ (i : List ℕ) (k : ℕ) (ks : List ℕ) (at : ℕ) where
       rw records_at
       (by_step_law (λ n. suc (fitting i ks (records i n))) (λ p. 0) i k at (λ r. fitting i (k ∷ ks) (follow at r (records i))) (λ kind start len n. refl) refl refl)
 
-step_past : (i : List ℕ) (at k n : ℕ) → step_at i at k ≡ Next n → n ≡ next_at i at
+step_past : (i : List ℕ) (at k n : ℕ) → step_at i at k ≡ Ok n → n ≡ next_at i at
 unfolding step_at
 step_past i at k n = go (record_at i at)
   where
-    wrong : {p : ℕ} → Wrong p ≡ Next n → ⊥
+    wrong : {x : InstanceRefusal} → ◌≡◌ {A = Result ℕ InstanceRefusal} (Err x) (Ok n) → ⊥
     wrong e = let z : ◌≡◌ {A = ℕ} 0 1 = cc in omega arith
 
-    chosen : (b : Bool) (next : ℕ) → pick b (Next next) (Wrong at) ≡ Next n → n ≡ next
+    chosen : (b : Bool) (next : ℕ) → ◌≡◌ {A = Result ℕ InstanceRefusal} (pick b (Ok next) (Err (nonconforming at))) (Ok n) → n ≡ next
     chosen true next e = cc
     chosen false next e = absurd (wrong e)
 
-    go : (r : RecordAt) → step_of i at k r ≡ Next n → n ≡ next_of at r
+    go : (r : RecordAt) → step_of i at k r ≡ Ok n → n ≡ next_of at r
     go (Whole kind start len next) e = chosen (record_fits k kind (part i start len)) next e
     go Broken e = absurd (wrong e)
     go End e = absurd (wrong e)
 
--- ---- the walk: `old` are the notes as they came, the instance's next record is that of property `number`
-pub record Walking (t i : List ℕ) (first : ℕ) (old notes : List ℕ) (row at number : ℕ) : Type 0 where
-  pub left : fault_in i (kinds_in (records t first)) (records i 0) ≡ fault_in i (kinds_in (records t row)) (records i at)
-  pub count : fitting i (kinds_in (records t first)) (records i 0) ≡ number + fitting i (kinds_in (records t row)) (records i at)
+-- ---- the walk: `old` are the notes as they came, `rs` the properties' records that are left, the instance's next record is that of property `number`
+pub record Walking (t i : List ℕ) (first : ℕ) (old notes : List ℕ) (rs : Records) (at number : ℕ) : Type 0 where
+  pub fault : fault_in i (kinds_in (records t first)) (records i 0) ≡ fault_in i (kinds_in rs) (records i at)
+  pub count : fitting i (kinds_in (records t first)) (records i 0) ≡ number + fitting i (kinds_in rs) (records i at)
   pub here : at ≡ start_of i number
   pub written : notes ≡ noted i number old
-  pub few : number ≤ row
 
-pub walking_begins : (t i : List ℕ) (first : ℕ) (notes : List ℕ) → Walking t i first notes notes first 0 0
+pub walking_begins : (t i : List ℕ) (first : ℕ) (notes : List ℕ) {rs : Records} {number : ℕ} → rs ≡ records t first → number ≡ 0 → Walking t i first notes notes rs 0 number
 unfolding start_of noted
-walking_begins t i first notes = record { left = refl; count = omega arith; here = refl; written = refl; few = omega arith }
+walking_begins t i first notes e f = rw (e, f) (record { fault = refl; count = omega arith; here = refl; written = refl })
 
-module _ (t i : List ℕ) (first : ℕ) (old notes : List ℕ) (row at number : ℕ) (w : Walking t i first old notes row at number) where
+module _ (t i : List ℕ) (first : ℕ) (old notes : List ℕ) (rs : Records) (at number : ℕ) (w : Walking t i first old notes rs at number) where
   pub walking_same : length notes ≡ length old
   walking_same = ap length w.written ∙ noted_length i number old
 
   -- no more records fit
-  all_noted : fitting i (kinds_in (records t row)) (records i at) ≡ 0 → notes ≡ noted i (fitting i (kinds_in (records t first)) (records i 0)) old
+  all_noted : fitting i (kinds_in rs) (records i at) ≡ 0 → notes ≡ noted i (fitting i (kinds_in (records t first)) (records i 0)) old
   all_noted e = w.written ∙ ap (λ (n : ℕ). noted i n old) (omega (arith, w.count))
 
-  module _ {r : RecordAt} (e : r ≡ record_at t row) where
-    module _ (f : r ≡ Broken) where
-      pub broken_found : {x : Conformity} → x ≡ further_fault (records i at) → x ≡ fault_in i (kinds_in (records t first)) (records i 0)
-      unfolding fault_in kinds_in
-      broken_found g = g ∙ sym (w.left ∙ rw (records_broken t row (sym e ∙ f)))
+  module _ (place : ℕ) (f : rs ≡ broken place) where
+    pub broken_found : {x : Conformity} → x ≡ further_fault (records i at) → x ≡ fault_in i (kinds_in (records t first)) (records i 0)
+    unfolding fault_in kinds_in
+    broken_found g = g ∙ sym (w.fault ∙ rw f)
 
-      pub broken_noted : notes ≡ noted i (fitting i (kinds_in (records t first)) (records i 0)) old
-      unfolding kinds_in fitting
-      broken_noted = all_noted (rw (records_broken t row (sym e ∙ f)) refl)
+    pub broken_noted : notes ≡ noted i (fitting i (kinds_in (records t first)) (records i 0)) old
+    unfolding kinds_in fitting
+    broken_noted = all_noted (rw f refl)
 
-    module _ (f : r ≡ End) where
-      pub end_found : {x : Conformity} → x ≡ further_fault (records i at) → x ≡ fault_in i (kinds_in (records t first)) (records i 0)
-      unfolding fault_in kinds_in
-      end_found g = g ∙ sym (w.left ∙ rw (records_end t row (sym e ∙ f)))
+  module _ (f : rs ≡ ended) where
+    pub end_found : {x : Conformity} → x ≡ further_fault (records i at) → x ≡ fault_in i (kinds_in (records t first)) (records i 0)
+    unfolding fault_in kinds_in
+    end_found g = g ∙ sym (w.fault ∙ rw f)
 
-      pub end_noted : notes ≡ noted i (fitting i (kinds_in (records t first)) (records i 0)) old
-      unfolding kinds_in fitting
-      end_noted = all_noted (rw (records_end t row (sym e ∙ f)) refl)
+    pub end_noted : notes ≡ noted i (fitting i (kinds_in (records t first)) (records i 0)) old
+    unfolding kinds_in fitting
+    end_noted = all_noted (rw f refl)
 
-    module _ {kind start len next : ℕ} (f : r ≡ Whole kind start len next) where
-      pub walking_room : number + 1 ≤ length t
-      walking_room = step_room t row e f number w.few
+  module _ (place kind start len : ℕ) (rest : Records) (f : rs ≡ item place kind start len rest) (y : Result ℕ InstanceRefusal) (g : y ≡ step_at i at kind) where
+    kinds_left : kinds_in rs ≡ kind ∷ kinds_in rest
+    unfolding kinds_in
+    kinds_left = rw f
 
-      kinds_left : kinds_in (records t row) ≡ kind ∷ kinds_in (records t next)
-      unfolding kinds_in
-      kinds_left = rw (records_whole t row kind start len next (sym e ∙ f))
+    fault_left : fault_in i (kinds_in (records t first)) (records i 0) ≡ by_step (λ n. fault_in i (kinds_in rest) (records i n)) (λ x. Err x) y
+    fault_left = w.fault ∙ rw (kinds_left, g) (fault_at_law i kind (kinds_in rest) at)
 
-      module _ {y : Step} (g : y ≡ step_at i at kind) where
-        fault_left : fault_in i (kinds_in (records t first)) (records i 0) ≡ by_step (λ n. fault_in i (kinds_in (records t next)) (records i n)) fault_at y
-        fault_left = w.left ∙ rw (kinds_left, g) (fault_at_law i kind (kinds_in (records t next)) at)
+    count_left : fitting i (kinds_in rs) (records i at) ≡ by_step (λ n. suc (fitting i (kinds_in rest) (records i n))) (λ p. 0) y
+    count_left = rw (kinds_left, g) (fitting_at i kind (kinds_in rest) at)
 
-        count_left : fitting i (kinds_in (records t row)) (records i at) ≡ by_step (λ n. suc (fitting i (kinds_in (records t next)) (records i n))) (λ p. 0) y
-        count_left = rw (kinds_left, g) (fitting_at i kind (kinds_in (records t next)) at)
+    module _ (x : InstanceRefusal) (h : y ≡ Err x) where
+      pub wrong_found : {z : Conformity} → z ≡ Err x → z ≡ fault_in i (kinds_in (records t first)) (records i 0)
+      unfolding by_step
+      wrong_found k = k ∙ sym (fault_left ∙ rw h)
 
-        module _ {p : ℕ} (h : y ≡ Wrong p) where
-          pub wrong_found : {x : Conformity} → x ≡ fault_at p → x ≡ fault_in i (kinds_in (records t first)) (records i 0)
-          unfolding by_step
-          wrong_found z = z ∙ sym (fault_left ∙ rw h)
+      pub wrong_noted : notes ≡ noted i (fitting i (kinds_in (records t first)) (records i 0)) old
+      unfolding by_step
+      wrong_noted = all_noted (count_left ∙ rw h)
 
-          pub wrong_noted : notes ≡ noted i (fitting i (kinds_in (records t first)) (records i 0)) old
-          unfolding by_step
-          wrong_noted = all_noted (count_left ∙ rw h)
-
-        pub walking_next : {n : ℕ} → y ≡ Next n → {new : List ℕ} → new ≡ set notes number at → Walking t i first old new next n (number + 1)
-        unfolding by_step noted
-        walking_next {n} h {new} z =
-            record {
-              left = fault_left ∙ rw h;
-              count = let m : fitting i (kinds_in (records t row)) (records i at) ≡ suc (fitting i (kinds_in (records t next)) (records i n)) = count_left ∙ rw h in omega (arith, w.count);
-              here = start_next i number at w.here n (step_past i at kind n (sym g ∙ h));
-              written = z ∙ rw (add-one number, w.written, w.here);
-              few = step_counts t row e f number w.few;
-            }
+    pub walking_next : (n : ℕ) → y ≡ Ok n → {here further : ℕ} → here ≡ number → further ≡ number + 1 → {new : List ℕ} → new ≡ set notes here at
+        → Walking t i first old new rest n further
+    unfolding by_step noted
+    walking_next n h d e z =
+        rw e (record {
+          fault = fault_left ∙ rw h;
+          count = let m : fitting i (kinds_in rs) (records i at) ≡ suc (fitting i (kinds_in rest) (records i n)) = count_left ∙ rw h in omega (arith, w.count);
+          here = start_next i number at w.here n (step_past i at kind n (sym g ∙ h));
+          written = z ∙ rw (d, add-one number, w.written, w.here);
+        })
 
 -- ---- the whole instance
 module _ (ks i notes : List ℕ) where

@@ -1,4 +1,5 @@
 -- The test of a body says what 01 says of it: both agree for every type and all bytes.
+use Rattle.std.specs.Prelude.{Result, Ok, Err}
 use Prim.Native.Nat.{ℕ}
 use mathlib.Core.List.{List}
 use mathlib.Core.Bool.{◌||◌}
@@ -13,16 +14,14 @@ use Rattle.record.specs.declared.kind.Family.{Family}
 use Rattle.record.specs.declared.kind.Family.TheVariants.{Boolean, Integer, Real, Text, Char16, Octets, Datetime, Reference}
 use Rattle.record.specs.declared.kind.ValueType.{ValueType}
 use Rattle.encoding.specs.WellFormed.{first_ill_formed}
-use Rattle.encoding.specs.declared.text.Utf8.{Utf8}
-use Rattle.encoding.specs.declared.text.Utf8.TheVariants.{WellFormed, IllFormed}
 use Rattle.datetime.specs.Datetime.{datetime_of}
 use Rattle.datetime.specs.declared.Datetime as calendar
 use Rattle.datetime.specs.declared.Datetime.TheVariants.{Timestamp, Interval, Malformed}
 use Rattle.instance.specs.Body.{HasFamily, HasType, boolean_fits, is_well_formed, text_fits, char16_fits, is_datetime, datetime_fits, family_fits, value_fits}
 
-says_well_formed : (u : Utf8) → Says (is_well_formed u) (u ≡ WellFormed)
-says_well_formed WellFormed = record { to = λ e. refl; from = λ h. refl }
-says_well_formed (IllFormed p) = record { to = λ e. absurd (apart e); from = λ h. absurd (let z : ◌≡◌ {A = ℕ} 0 1 = cc in omega arith) }
+says_well_formed : (u : Result (Unit {0}) ℕ) → Says (is_well_formed u) (u ≡ Ok tt)
+says_well_formed (Ok all) = record { to = λ e. refl; from = λ h. refl }
+says_well_formed (Err p) = record { to = λ e. absurd (apart e); from = λ h. absurd (let z : ◌≡◌ {A = ℕ} 0 1 = cc in omega arith) }
 
 says_datetime_law : (d : calendar.Datetime) → Says (is_datetime d) (d ≡ Malformed → ⊥)
 says_datetime_law (Timestamp m) = record { to = λ e h. let z : ◌≡◌ {A = ℕ} 0 1 = cc in omega arith; from = λ h. refl }

@@ -1,13 +1,11 @@
 -- 01 "Table", types and value bodies: what the body of a value of each type is, in 01's words (`HasType`) and as a test (`value_fits`); proofs/Types says that they agree.
-use Rattle.std.specs.Prelude.{ℕ, ◌≤◌, ◌<◌, List, Bool, true, false, ◌&&◌, ◌||◌, ◌≡◌, ◌⊎◌, length, ltb, leb, eqb}
+use Rattle.std.specs.Prelude.{ℕ, ◌≤◌, ◌<◌, List, Result, Ok, Err, Bool, true, false, ◌&&◌, ◌||◌, ◌≡◌, ◌⊎◌, length, ltb, leb, eqb}
 use Rattle.base.specs.Part.{byte_at}
 use Rattle.record.specs.Record.{number_at}
 use Rattle.record.specs.declared.kind.Family.{Family}
 use Rattle.record.specs.declared.kind.Family.TheVariants.{Boolean, Integer, Real, Text, Char16, Octets, Datetime, Reference}
 use Rattle.record.specs.declared.kind.ValueType.{ValueType}
 use Rattle.encoding.specs.WellFormed.{first_ill_formed}
-use Rattle.encoding.specs.declared.text.Utf8.{Utf8}
-use Rattle.encoding.specs.declared.text.Utf8.TheVariants.{WellFormed, IllFormed}
 use Rattle.datetime.specs.Datetime.{datetime_of}
 use Rattle.datetime.specs.declared.Datetime as calendar
 use Rattle.datetime.specs.declared.Datetime.TheVariants.{Timestamp, Interval, Malformed}
@@ -17,11 +15,11 @@ abbrev pub HasFamily : Family → (width : ℕ) → List ℕ → Type 0
 HasFamily Boolean width s = (length s ≡ 1) × (byte_at s 0 ≤ 1)
 HasFamily Integer width s = length s ≡ width
 HasFamily Real width s = length s ≡ width
-HasFamily Text width s = first_ill_formed s ≡ WellFormed
+HasFamily Text width s = first_ill_formed s ≡ Ok tt
 HasFamily Char16 width s = (length s ≡ 2) × ((number_at s 0 < 0xd800) ⊎ (0xdfff < number_at s 0))
 HasFamily Octets width s = Unit
 HasFamily Datetime width s = datetime_of s ≡ Malformed → ⊥
-HasFamily Reference width s = first_ill_formed s ≡ WellFormed
+HasFamily Reference width s = first_ill_formed s ≡ Ok tt
 
 abbrev pub HasType : ValueType → List ℕ → Type 0
 HasType t s = HasFamily t.family t.width s
@@ -30,9 +28,9 @@ HasType t s = HasFamily t.family t.width s
 unfoldable pub boolean_fits : List ℕ → Bool
 boolean_fits s = eqb (length s) 1 && leb (byte_at s 0) 1
 
-abbrev pub is_well_formed : Utf8 → Bool
-is_well_formed WellFormed = true
-is_well_formed (IllFormed place) = false
+abbrev pub is_well_formed : Result (Unit {0}) ℕ → Bool
+is_well_formed (Ok all) = true
+is_well_formed (Err place) = false
 
 unfoldable pub text_fits : List ℕ → Bool
 text_fits s = is_well_formed (first_ill_formed s)

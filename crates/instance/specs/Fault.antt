@@ -1,5 +1,5 @@
 -- Of 01 "What can go wrong with a call", numbers 30 and 31: an instance that is too long, or else the start of its first record at fault.
-use Rattle.std.specs.Prelude.{ℕ, ◌+◌, List, [], ◌∷◌, Bool, true, false, ◌&&◌, ◌||◌, length, ltb, eqb}
+use Rattle.std.specs.Prelude.{ℕ, ◌+◌, List, [], ◌∷◌, Result, Ok, Err, Bool, true, false, ◌&&◌, ◌||◌, length, ltb, eqb}
 use Rattle.base.specs.Pick.{pick}
 use Rattle.base.specs.Part.{part}
 use Rattle.record.specs.Record.{record_at, Records, item, broken, ended, records}
@@ -13,18 +13,28 @@ use Rattle.table.specs.Properties.{kinds_of}
 use Rattle.instance.specs.Body.{value_fits}
 use Rattle.instance.specs.declared.conform.InstanceFault.{InstanceFault}
 use Rattle.instance.specs.declared.conform.InstanceFault.TheVariants.{TooLong, Nonconforming}
-use Rattle.instance.specs.declared.conform.Conformity.{Conformity}
-use Rattle.instance.specs.declared.conform.Conformity.TheVariants.{Conforming, Fault}
-use Rattle.instance.specs.declared.conform.Step.{Step}
-use Rattle.instance.specs.declared.conform.Step.TheVariants.{Next, Wrong}
+use Rattle.instance.specs.declared.conform.InstanceRefusal.{InstanceRefusal}
 
 -- 01's numbers of the faults: instance too long; instance doesn't conform
 abbrev pub number_of : InstanceFault → ℕ
 number_of TooLong = 30
 number_of Nonconforming = 31
 
+abbrev pub nonconforming : (place : ℕ) → InstanceRefusal
+nonconforming place = record { cause = Nonconforming; place = place }
+
+abbrev pub too_long : InstanceRefusal
+too_long = record { cause = TooLong; place = 0 }
+
+-- what an instance is found to be: it conforms, or its first fault
+abbrev pub Conformity : Type 0
+Conformity = Result (Unit {0}) InstanceRefusal
+
+abbrev pub conforming : Conformity
+conforming = Ok tt
+
 abbrev pub fault_at : (place : ℕ) → Conformity
-fault_at place = Fault Nonconforming place
+fault_at place = Err (nonconforming place)
 
 abbrev pub is_null : (kind : ℕ) (body : List ℕ) → Bool
 is_null kind body = eqb kind 0 && eqb (length body) 0
@@ -55,7 +65,7 @@ record_fits asked kind body = slot_fits asked kind body (body_fits (kind_of aske
 unfoldable pub further_fault : Records → Conformity
 further_fault (item place kind start len rest) = further_fault rest
 further_fault (broken place) = fault_at place
-further_fault ended = Conforming
+further_fault ended = conforming
 
 -- the first record at fault; a missing one is placed at the end
 unfoldable pub fault_in : List ℕ → (kinds : List ℕ) → Records → Conformity
@@ -66,16 +76,16 @@ fault_in i (k ∷ ks) ended = fault_at (length i)
 
 -- what an instance is found to be under the kinds of a table's properties
 unfoldable pub fault_under : (kinds instance : List ℕ) → Conformity
-fault_under ks i = pick (ltb 65535 (length i)) (Fault TooLong 0) (fault_in i ks (records i 0))
+fault_under ks i = pick (ltb 65535 (length i)) (Err too_long) (fault_in i ks (records i 0))
 
 abbrev pub conformity : (table instance : List ℕ) → Conformity
 conformity t i = fault_under (kinds_of t) i
 
--- the record of a property that should start at a place: where it ends, or the place of its fault
-abbrev pub step_of : List ℕ → (place asked : ℕ) → RecordAt → Step
-step_of i place asked (Whole kind start len next) = pick (record_fits asked kind (part i start len)) (Next next) (Wrong place)
-step_of i place asked Broken = Wrong place
-step_of i place asked End = Wrong (length i)
+-- the record of a property that should start at a place: where it ends, or its fault
+abbrev pub step_of : List ℕ → (place asked : ℕ) → RecordAt → Result ℕ InstanceRefusal
+step_of i place asked (Whole kind start len next) = pick (record_fits asked kind (part i start len)) (Ok next) (Err (nonconforming place))
+step_of i place asked Broken = Err (nonconforming place)
+step_of i place asked End = Err (nonconforming (length i))
 
-unfoldable pub step_at : List ℕ → (place asked : ℕ) → Step
+unfoldable pub step_at : List ℕ → (place asked : ℕ) → Result ℕ InstanceRefusal
 step_at i place asked = step_of i place asked (record_at i place)

@@ -4,9 +4,8 @@ ghost use Rattle.instance.specs.Body.{value_fits};
 ghost use Rattle.instance.specs.Fault.{is_null, slot_fits, array_fits, body_fits, record_fits};
 
 use crate::body::{is_numeric, value_fits};
-use base::bytes::piece;
-use record::kind::{Kind, ValueType};
-use record::read::RecordAt;
+use record::kind::{Kind, ValueType, kind_of};
+use record::walk::records_from;
 
 pub fn is_null(kind: usize, body: &[u8]) -> bool
     ensures { result ≡ is_null kind body.now }
@@ -14,50 +13,42 @@ pub fn is_null(kind: usize, body: &[u8]) -> bool
     (kind == 0) & (body.len() == 0)
 }
 
-// Whether a record with this kind and body may be an element whose kind is `element`.
-fn element_fits(body: &[u8], element: usize, of: ValueType, kind: usize) -> bool
-    ensures { result ≡ slot_fits element kind body.now (value_fits of body.now) }
+// The same as `value_fits`, numbers first.
+#[tactic(auto, using(crate::proofs::Laws::numeric_fits))]
+#[inline(always)]
+fn scalar_fits(body: &[u8], of: ValueType) -> bool
+    ensures { result ≡ value_fits of body.now }
 {
-    if is_null(kind, body) {
-        return true;
-    }
-    if kind != element {
-        return false;
-    }
-    let family = of.family;
-    if is_numeric(family) {
+    if is_numeric(of.family) {
         return body.len() == of.width;
     }
     value_fits(body, of)
 }
 
+// Whether a record with this kind and body may be an element whose kind is `element`.
+fn element_fits(body: &[u8], element: usize, of: ValueType, kind: usize) -> bool
+    ensures { result ≡ slot_fits element kind body.now (value_fits of body.now) }
+{
+    is_null(kind, body) || kind == element && scalar_fits(body, of)
+}
+
 // Whether the bytes are 0 to 256 records, each NULL or an element.
+#[tactic(auto, using(crate::proofs::Laws::elements_broken, crate::proofs::Laws::elements_end, crate::proofs::Laws::elements_many, crate::proofs::Laws::elements_bad, crate::proofs::Laws::elements_next))]
 fn array_fits(s: &[u8], element: usize, of: ValueType) -> bool
     ensures { result ≡ array_fits element of s.now }
 {
-    let mut at: usize = 0;
-    let mut count: usize = 0;
-    loop {
-        match record::read::record_at(s, at) {
-            RecordAt::Whole {
-                kind,
-                start,
-                length,
-                next,
-            } => {
-                if 256 <= count {
-                    return false;
-                }
-                if !element_fits(piece(s, start, length), element, of, kind) {
-                    return false;
-                }
-                at = next;
-                count += 1;
-            }
-            RecordAt::Broken => return false,
-            RecordAt::End => return true,
+    for (count, record) in records_from(s, 0).enumerate() {
+        let Ok(record) = record else {
+            return false;
+        };
+        if 256 <= count {
+            return false;
+        }
+        if !element_fits(record.body_in(s), element, of, record.kind) {
+            return false;
         }
     }
+    true
 }
 
 fn body_fits(body: &[u8], kind: Kind) -> bool
@@ -65,13 +56,7 @@ fn body_fits(body: &[u8], kind: Kind) -> bool
 {
     match kind {
         Kind::Unknown => false,
-        Kind::Scalar(of) => {
-            let family = of.family;
-            if is_numeric(family) {
-                return body.len() == of.width;
-            }
-            value_fits(body, of)
-        }
+        Kind::Scalar(of) => scalar_fits(body, of),
         Kind::Array { element, of } => array_fits(body, element, of),
     }
 }
@@ -80,11 +65,5 @@ fn body_fits(body: &[u8], kind: Kind) -> bool
 pub fn record_fits(body: &[u8], property: usize, kind: usize) -> bool
     ensures { result ≡ record_fits property kind body.now }
 {
-    if is_null(kind, body) {
-        return true;
-    }
-    if kind != property {
-        return false;
-    }
-    body_fits(body, record::kind::kind_of(property))
+    is_null(kind, body) || kind == property && body_fits(body, kind_of(property))
 }

@@ -2,31 +2,26 @@
 ghost use Rattle.std.specs.Prelude.{◌≡◌, length};
 ghost use Rattle.record.specs.Record.{records};
 ghost use Rattle.table.specs.Properties.{kinds_in};
-ghost use Rattle.instance.specs.Fault.{number_of, step_at, further_fault, fault_in, conformity};
+ghost use Rattle.instance.specs.Fault.{number_of, nonconforming, step_at, further_fault, fault_in, conformity};
 ghost use Rattle.instance.specs.Noted.{noted, fitting, notes_after};
 
 use crate::array::record_fits;
 use crate::notes::note;
 use base::bytes::piece;
-use record::read::RecordAt;
+use record::read::{RecordAt, record_at};
+use record::walk::records_from;
 
-#[derive(Clone, Copy)]
+#[derive(Clone, Copy, PartialEq, Eq)]
 pub enum InstanceFault {
     TooLong,
     Nonconforming,
 }
 
-#[derive(Drop)]
-pub enum Conformity {
-    Conforming,
-    Fault { cause: InstanceFault, place: usize },
-}
-
-// After a property's record: where the next one starts, or the place of the fault.
-#[derive(Drop)]
-pub enum Step {
-    Next(usize),
-    Wrong(usize),
+// A fault and its place.
+#[derive(Clone, Copy, PartialEq, Eq)]
+pub struct InstanceRefusal {
+    pub cause: InstanceFault,
+    pub place: usize,
 }
 
 // The refusal number of a fault.
@@ -39,20 +34,21 @@ pub fn number_of(cause: InstanceFault) -> usize
     }
 }
 
-fn nonconforming(place: usize) -> Conformity
-    ensures { result ≡ Rattle.instance.specs.Fault.fault_at place }
+fn nonconforming(place: usize) -> InstanceRefusal
+    ensures { result ≡ nonconforming place }
 {
-    Conformity::Fault {
+    InstanceRefusal {
         cause: InstanceFault::Nonconforming,
         place,
     }
 }
 
-// The record of a property of kind `property` that should start at `at`.
-fn step_at(i: &[u8], at: usize, property: usize) -> Step
+// The record of a property of kind `property` that should start at `at`: where the next one starts, or the fault.
+#[tactic(auto, using(crate::proofs::Laws::step_next, crate::proofs::Laws::step_wrong, crate::proofs::Laws::step_broken, crate::proofs::Laws::step_end))]
+fn step_at(i: &[u8], at: usize, property: usize) -> Result<usize, InstanceRefusal>
     ensures { result ≡ step_at i.now at property }
 {
-    match record::read::record_at(i, at) {
+    match record_at(i, at) {
         RecordAt::Whole {
             kind,
             start,
@@ -60,74 +56,60 @@ fn step_at(i: &[u8], at: usize, property: usize) -> Step
             next,
         } => {
             if record_fits(piece(i, start, length), property, kind) {
-                return Step::Next(next);
+                return Ok(next);
             }
-            Step::Wrong(at)
+            Err(nonconforming(at))
         }
-        RecordAt::Broken => Step::Wrong(at),
-        RecordAt::End => Step::Wrong(i.len()),
+        RecordAt::Broken => Err(nonconforming(at)),
+        RecordAt::End => Err(nonconforming(i.len())),
     }
 }
 
 // The records from `first` on, of which only the lengths must fit.
-fn further(i: &[u8], first: usize) -> Conformity
+#[tactic(auto, using(crate::proofs::Laws::further_broken, crate::proofs::Laws::further_end, crate::proofs::Laws::further_next))]
+fn further(i: &[u8], first: usize) -> Result<(), InstanceRefusal>
     ensures { result ≡ further_fault (records i.now first) }
 {
-    let mut at = first;
-    loop {
-        match record::read::record_at(i, at) {
-            RecordAt::Whole {
-                kind: _,
-                start: _,
-                length: _,
-                next,
-            } => {
-                at = next;
-            }
-            RecordAt::Broken => return nonconforming(at),
-            RecordAt::End => return Conformity::Conforming,
-        }
+    for record in records_from(i, first) {
+        record.map_err(nonconforming)?;
     }
+    Ok(())
 }
 
 // The table's properties from `first` on, beside the instance's records; the places of those that fit are noted.
-fn walk_beside<'a>(t: &'a [u8], first: usize, i: &'a [u8], notes: &mut [usize]) -> Conformity
+fn walk_beside<'a>(
+    t: &'a [u8],
+    first: usize,
+    i: &'a [u8],
+    notes: &mut [usize],
+) -> Result<(), InstanceRefusal>
     ensures { (result ≡ fault_in i.now (kinds_in (records t.now first)) (records i.now 0)) × (notes.new ≡ noted i.now (fitting i.now (kinds_in (records t.now first)) (records i.now 0)) notes.old) × (length notes.new ≡ length notes.old) }
 {
-    let mut row = first;
     let mut at: usize = 0;
-    let mut number: usize = 0;
-    loop {
-        match record::read::record_at(t, row) {
-            RecordAt::Whole {
-                kind,
-                start: _,
-                length: _,
-                next,
-            } => match step_at(i, at, kind) {
-                Step::Next(then) => {
-                    note(notes, number, at);
-                    at = then;
-                    row = next;
-                    number += 1;
-                }
-                Step::Wrong(place) => return nonconforming(place),
-            },
-            RecordAt::Broken => return further(i, at),
-            RecordAt::End => return further(i, at),
-        }
+    for (number, property) in records_from(t, first).enumerate() {
+        let Ok(property) = property else {
+            return further(i, at);
+        };
+        let next = step_at(i, at, property.kind)?;
+        note(notes, number, at);
+        at = next;
     }
+    further(i, at)
 }
 
 // Whether an instance conforms to a table that is free of 2 and 3, or its fault. The notes then hold where each property's record starts, as far as the walk went.
-pub fn check_instance<'a>(t: &'a [u8], i: &'a [u8], notes: &mut [usize]) -> Conformity
+pub fn check_instance<'a>(
+    t: &'a [u8],
+    i: &'a [u8],
+    notes: &mut [usize],
+) -> Result<(), InstanceRefusal>
     ensures { (result ≡ conformity t.now i.now) × (notes.new ≡ notes_after t.now i.now notes.old) × (length notes.new ≡ length notes.old) }
 {
     if 65535 < i.len() {
-        return Conformity::Fault {
+        return Err(InstanceRefusal {
             cause: InstanceFault::TooLong,
             place: 0,
-        };
+        });
     }
     walk_beside(t, table::lookup::first_property(t), i, notes)
 }

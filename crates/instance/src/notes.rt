@@ -17,8 +17,5 @@ pub(crate) fn note(notes: &mut [usize], number: usize, at: usize)
 pub fn place_noted(notes: &[usize], number: usize) -> usize
     ensures { result ≡ place_noted notes.now number }
 {
-    if number < notes.len() {
-        return notes[number];
-    }
-    0
+    notes.get(number).copied().unwrap_or(0)
 }

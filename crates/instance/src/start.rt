@@ -2,20 +2,14 @@
 ghost use Rattle.std.specs.Prelude.{◌≡◌};
 ghost use Rattle.instance.specs.Start.{next_at, start_of};
 
-use record::read::RecordAt;
+use record::read::{RecordAt, record_at};
 
 fn next_after(i: &[u8], at: usize) -> usize
     ensures { result ≡ next_at i.now at }
 {
-    match record::read::record_at(i, at) {
-        RecordAt::Whole {
-            kind: _,
-            start: _,
-            length: _,
-            next,
-        } => next,
-        RecordAt::Broken => at,
-        RecordAt::End => at,
+    match record_at(i, at) {
+        RecordAt::Whole { next, .. } => next,
+        _ => at,
     }
 }
 
@@ -24,14 +18,12 @@ pub fn start_of(i: &[u8], number: usize) -> usize
     ensures { result ≡ start_of i.now number }
 {
     let mut at: usize = 0;
-    let mut n: usize = 0;
-    while n < number {
+    for n in 0..number {
         let next = next_after(i, at);
         if next == at {
             return at;
         }
         at = next;
-        n += 1;
     }
     at
 }

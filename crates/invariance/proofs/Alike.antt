@@ -1,4 +1,5 @@
 -- What a comparison means depends on its environment only at the paths that it names, and there only on the shape and the family of the kind and on the value.
+use Rattle.std.specs.Prelude.{Option}
 use Prim.Native.Nat.{ℕ}
 use mathlib.Core.Path.{◌≡◌, refl, ap, ◌∙◌}
 use mathlib.Core.List.{List}
@@ -8,12 +9,12 @@ use Rattle.record.specs.declared.kind.ValueType.{ValueType}
 use Rattle.record.specs.declared.kind.Kind.{Kind}
 use Rattle.record.specs.declared.kind.Kind.TheVariants.{Unknown, Scalar, Array}
 use Rattle.syntax.specs.declared.path.Path.{Path}
-use Rattle.syntax.specs.declared.path.Index.{Index}
 use Rattle.syntax.specs.declared.right_side.RightSide.{RightSide}
 use Rattle.syntax.specs.declared.right_side.RightSide.TheVariants.{Literal, Elements, Property, Pattern}
 use Rattle.syntax.specs.declared.comparison.Comparison.{Comparison}
 use Rattle.instance.specs.Value.{Value, Entry, absent, property}
 use Rattle.judge.specs.Meaning.{as_scalar, as_array, Left, left_scalar, left_array, right_scalar, right_array, right_kind, right_property, right_of, meet, meant_by, meant_as, meaning}
+use Rattle.token.specs.declared.Token.{Token}
 
 -- kinds of one shape and one family, whatever their numbers, widths and signs
 pub data KindsAlike : Kind → Kind → Type 0 where
@@ -40,7 +41,7 @@ pub entries_same : (x : Entry) → EntriesAlike x x
 entries_same absent = neither
 entries_same (property k v) = properties (kinds_same (kind_of k))
 
-module _ (f : Family) (q : List ℕ) (place : ℕ) (i : Index) where
+module _ (f : Family) (q : List ℕ) (place : ℕ) (i : Option Token) where
   right_kind_law : {k l : Kind} (v : Value) → KindsAlike k l → right_kind f q place i k v ≡ right_kind f q place i l v
   unfolding right_kind
   right_kind_law v unknown = refl

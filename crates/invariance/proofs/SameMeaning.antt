@@ -4,8 +4,8 @@ use mathlib.Core.Path.{◌≡◌, refl, sym, ap, ap₂, ◌∙◌}
 use mathlib.Core.List.{List}
 use mathlib.Core.Bool.{◌&&◌}
 use mathlib.Core.Logic.{inl}
-use Rattle.table.specs.declared.lookup.Found.{Found}
-use Rattle.table.specs.declared.lookup.Found.TheVariants as found
+use Rattle.std.specs.Prelude.{None, Option, Some}
+use Rattle.table.specs.declared.lookup.Property as lookup
 use Rattle.instance.specs.Value.{Entry}
 use Rattle.syntax.specs.declared.path.Path.{Path}
 use Rattle.syntax.specs.declared.right_side.RightSide.{RightSide}
@@ -63,9 +63,9 @@ module _ (q t : List ℕ) (env other : ℕ → Entry) where
   abbrev Agree : (numbers : List ℕ) → Type 0
   Agree ns = (n : ℕ) → Member n ns → env n ≡ other n
 
-  entry_agrees : (x : Found) → Agree (property_of x) → EntriesAlike (entry_found env x) (entry_found other x)
-  entry_agrees (found.Property n k) h = rw (h n (inl refl)) (entries_same (other n))
-  entry_agrees found.Absent h = neither
+  entry_agrees : (x : Option lookup.Property) → Agree (property_of x) → EntriesAlike (entry_found env x) (entry_found other x)
+  entry_agrees (Some x) h = rw (h x.number (inl refl)) (entries_same (other x.number))
+  entry_agrees None h = neither
 
   abbrev under : (ℕ → Entry) → Path → Entry
   under e p = entry_found e (named q t p)

@@ -1,4 +1,5 @@
 -- 02 Q-3: only the properties that a query names count; what else two conforming instances hold, how long they are and which further records they have doesn't.
+use Rattle.std.specs.Prelude.{Err, Ok, Result}
 use Prim.Native.Nat.{ℕ, ◌≤◌}
 use mathlib.Core.Path.{◌≡◌, refl, sym, ap, ap₂, ◌∙◌}
 use mathlib.Core.List.{List, ◌++◌}
@@ -12,10 +13,9 @@ use Rattle.record.specs.declared.read.RecordAt.{RecordAt}
 use Rattle.record.specs.declared.read.RecordAt.TheVariants.{Whole, Broken, End}
 use Rattle.table.specs.Properties.{kinds_of}
 use Rattle.instance.specs.Conforms.{Conforms}
-use Rattle.instance.specs.Fault.{conformity}
+use Rattle.instance.specs.Fault.{Conformity, conformity}
 use Rattle.instance.specs.Start.{start_of}
 use Rattle.instance.specs.Value.{Value, null, property, body_value, value_in, value_at, entry_at, environment_under, environment}
-use Rattle.instance.specs.declared.conform.Conformity.{Conformity}
 use Rattle.instance.proofs.Decides.{conforms_no_fault}
 use Rattle.instance.proofs.Built.{appended_conforms}
 use Rattle.instance.proofs.Environment.{environment_stays}
@@ -27,8 +27,7 @@ use Rattle.filter.specs.Meaning.{QueryMeaning, query_meaning, query_steps}
 use Rattle.filter.specs.Evaluate.{meant_in, answer_of, evaluate_call, evaluate}
 use Rattle.filter.specs.Demand3.{Answered}
 use Rattle.filter.specs.declared.refusal.Answer.{Answer}
-use Rattle.filter.specs.declared.refusal.Answer.TheVariants.{Included, Excluded, Refused}
-use Rattle.filter.specs.declared.refusal.Checked.TheVariants.{Accepted}
+use Rattle.filter.specs.declared.refusal.Answer.TheVariants.{Included, Excluded}
 use Rattle.filter.proofs.Laws.{call_good}
 use Rattle.filter.proofs.Demand3.{demand3}
 use Rattle.invariance.specs.NamedProperties.{Member, named_in, named_call, named_properties}
@@ -36,6 +35,7 @@ use Rattle.invariance.specs.SameRecords.{Held, nothing, held, held_in, held_for,
 use Rattle.invariance.proofs.Members.{member_distinct}
 use Rattle.invariance.proofs.SameMeaning.{meaning_same, steps_same}
 use Rattle.invariance.proofs.WithinTable.{named_within}
+use Rattle.filter.specs.declared.refusal.Refusal.{Refusal}
 
 -- ---- what is read depends on the record alone
 value_held : (asked : ℕ) → Held → Value
@@ -89,13 +89,13 @@ module _ (q t i j : List ℕ) (c : Conforms t i) (d : Conforms t j) where
 
   -- ---- in an operator's words
   -- an accepted query: both are included or both excluded, in as many steps
-  pub same_verdict : check q t ≡ Accepted → SameRecords (named_properties q t) i j → SameVerdict (evaluate q t i) (evaluate q t j)
+  pub same_verdict : check q t ≡ Ok tt → SameRecords (named_properties q t) i j → SameVerdict (evaluate q t i) (evaluate q t j)
   same_verdict a h = go (evaluate q t i) (evaluate q t j) (same_records h) ((demand3 q t i c).answers.0 a)
     where
-      go : (x y : Answer) → x ≡ y → Answered x → SameVerdict x y
-      go (Included n) y e w = rw (sym e) included
-      go (Excluded n) y e w = rw (sym e) excluded
-      go (Refused r) y e w = absurd w
+      go : (x y : Result Answer Refusal) → x ≡ y → Answered x → SameVerdict x y
+      go (Ok (Included n)) y e w = rw (sym e) included
+      go (Ok (Excluded n)) y e w = rw (sym e) excluded
+      go (Err r) y e w = absurd w
 
   -- a change to one property that isn't named changes nothing
   pub unnamed_changed : (n : ℕ) → (Member n (named_properties q t) → ⊥) → SameBut n t i j → evaluate q t i ≡ evaluate q t j

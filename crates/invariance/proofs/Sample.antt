@@ -27,9 +27,8 @@ use Rattle.table.specs.Sample.{table_in, sample_table}
 use Rattle.instance.specs.Body
 use Rattle.instance.specs.Conforms.{Conforms}
 use Rattle.instance.specs.Fault
-use Rattle.instance.specs.Fault.{conformity}
+use Rattle.instance.specs.Fault.{conforming, conformity}
 use Rattle.instance.specs.Sample.{instance_in, sample_instance}
-use Rattle.instance.specs.declared.conform.Conformity.TheVariants.{Conforming}
 use Rattle.instance.proofs.Decides.{no_fault_conforms}
 use Rattle.invariance.specs.Wider.{ends, both, scalars, arrays, scalar, array, kept, integers, further, next, Wider, KeepsAnswer}
 use Rattle.invariance.proofs.Wider.{widening}
@@ -37,11 +36,11 @@ use Rattle.invariance.proofs.Wider.{widening}
 narrow_free : FreeOfFaults (table_in 1)
 unfolding
     LittleEndian.unsigned Walk.walk Walk.from Record.record_at Record.records Write.little_endian Write.write
-    Range.within Name.letter Name.name_byte Name.all Name.valid_name Name.lower Name.same_name
+    Range.within Name.letter Name.name_byte Name.valid_name Name.lower Name.same_name
     Reserved.reserved_words Reserved.among Reserved.is_reserved Kind.integer_kind Kind.scalar_kind Kind.kind_of Table.properties Table.table_reading
 narrow_free = tt
 
-narrow_fits : conformity (table_in 1) (instance_in 1) ≡ Conforming
+narrow_fits : conformity (table_in 1) (instance_in 1) ≡ conforming
 unfolding
     LittleEndian.unsigned Walk.walk Walk.from Record.record_at Record.records Write.little_endian Write.stored Write.write
     Kind.integer_kind Kind.scalar_kind Kind.kind_of Range.within Digit.digit_of Digit.all_digits Digit.value_of Properties.kinds_in

@@ -1,4 +1,5 @@
 -- 02 Q-2: the same whole numbers in wider kinds keep a query's answer, its steps, and the check's word on it.
+use Rattle.std.specs.Prelude.{Err, None, Ok, Option}
 use Prim.Native.Nat.{ℕ, zero, suc, ◌≤◌, ◌<◌}
 use mathlib.Core.Path.{◌≡◌, refl, sym, ap, ap₂, ◌∙◌, subst, fun_ext}
 use mathlib.Core.List.{List}
@@ -12,17 +13,13 @@ use Rattle.base.specs.Pick.{pick}
 use Rattle.record.specs.Kind.{kind_of}
 use Rattle.record.specs.Name.{same_name}
 use Rattle.record.specs.declared.kind.Kind.{Kind}
-use Rattle.table.specs.Table.{table_reading, IsGood}
+use Rattle.table.specs.Table.{Reading, table_reading, IsGood}
 use Rattle.table.specs.Properties.{class_name, kinds_of, property_records, find_property}
-use Rattle.table.specs.declared.validate.TableReading.{TableReading}
-use Rattle.table.specs.declared.validate.TableReading.TheVariants as table-reading
-use Rattle.table.specs.declared.lookup.Found.{Found}
-use Rattle.table.specs.declared.lookup.Found.TheVariants.{Property, Absent}
+use Rattle.table.specs.declared.lookup.Property.{Property}
 use Rattle.instance.specs.Conforms.{Conforms}
-use Rattle.instance.specs.Fault.{conformity}
+use Rattle.instance.specs.Fault.{Conformity, conformity}
 use Rattle.instance.specs.Value.{entry_at, environment_under, environment}
 use Rattle.instance.specs.Start.{start_of}
-use Rattle.instance.specs.declared.conform.Conformity.{Conformity}
 use Rattle.instance.proofs.Decides.{conforms_no_fault}
 use Rattle.instance.proofs.Environment.{some_at, none_at}
 use Rattle.syntax.specs.declared.path.Path as path
@@ -102,7 +99,7 @@ module _ (q t i u j : List ℕ) (c : Conforms t i) (w : Wider t i u j) where
       rw told.0
       (by (eqb p.names 1) (eqb p.names 2 && same_name (class_name t) (spanned q p.first)) _ _ _ _ (find_both (spanned q p.first)) (find_both (spanned q p.second)))
     where
-      by : (a b : Bool) (x y v z : Found) → FoundWider x y → FoundWider v z → FoundWider (pick a x (pick b v Absent)) (pick a y (pick b z Absent))
+      by : (a b : Bool) (x y v z : Option Property) → FoundWider x y → FoundWider v z → FoundWider (pick a x (pick b v None)) (pick a y (pick b z None))
       by true b x y v z f g = f
       by false true x y v z f g = g
       by false false x y v z f g = not_found
@@ -111,7 +108,7 @@ module _ (q t i u j : List ℕ) (c : Conforms t i) (w : Wider t i u j) where
   unfolding entry_named
   entry_alike p = go (named_both p)
     where
-      go : {x y : Found} → FoundWider x y → EntriesAlike (entry_found (environment t i) x) (entry_found (environment u j) y)
+      go : {x y : Option Property} → FoundWider x y → EntriesAlike (entry_found (environment t i) x) (entry_found (environment u j) y)
       go not_found = neither
       go (found {n = n} h) = environment_alike n
 
@@ -129,10 +126,10 @@ module _ (q t i u j : List ℕ) (c : Conforms t i) (w : Wider t i u j) where
   unfolding call_of
   call_same = go (table_reading t) (table_reading u) c.free conforms_wider.free
     where
-      go : (x y : TableReading) → IsGood x → IsGood y → call_under q y ≡ call_under q x
-      go (table-reading.Good m) (table-reading.Good n) g h = refl
-      go (table-reading.Good m) (table-reading.Fault d p) g h = absurd h
-      go (table-reading.Fault d p) y g h = absurd g
+      go : (x y : Reading) → IsGood x → IsGood y → call_under q y ≡ call_under q x
+      go (Ok m) (Ok n) g h = refl
+      go (Ok m) (Err f) g h = absurd h
+      go (Err f) y g h = absurd g
 
   conformity_same : conformity u j ≡ conformity t i
   conformity_same = conforms_no_fault u j conforms_wider ∙ sym (conforms_no_fault t i c)

@@ -1,4 +1,5 @@
 -- A table with wider integers has the same class and the same names, finds the same properties, and is as free of 2 and 3.
+use Rattle.std.specs.Prelude.{Err, None, Option}
 use Prim.Native.Nat.{ℕ, ◌+◌}
 use mathlib.Core.Path.{◌≡◌, refl, sym, ap}
 use mathlib.Core.List.{List, [], ◌∷◌, ◌++◌}
@@ -16,13 +17,10 @@ use Rattle.record.specs.Name.{same_name}
 use Rattle.record.specs.Reserved.{among}
 use Rattle.record.specs.declared.kind.Kind.{Kind}
 use Rattle.record.proofs.Records.{records_end}
-use Rattle.table.specs.Table.{is_known, is_class, is_property, properties, class, table_reading, IsGood, FreeOfFaults, malformed_at}
+use Rattle.table.specs.Table.{Reading, is_known, is_class, is_property, name_twice, properties, class, table_reading, IsGood, FreeOfFaults, malformed_at}
 use Rattle.table.specs.Properties.{class_name, kinds_in, property_records, find_in}
-use Rattle.table.specs.declared.validate.TableFault.TheVariants.{NameTwice}
-use Rattle.table.specs.declared.validate.TableReading.{TableReading}
-use Rattle.table.specs.declared.validate.TableReading.TheVariants.{Fault}
-use Rattle.table.specs.declared.lookup.Found.{Found}
-use Rattle.table.specs.declared.lookup.Found.TheVariants.{Property, Absent}
+use Rattle.table.specs.declared.lookup.Property.{Property}
+use Rattle.table.specs.Properties as properties-found
 use Rattle.invariance.specs.Wider.{IntegerKinds, scalars, arrays, Widens, Paired, ends, both, SameName}
 use Rattle.invariance.proofs.Paired.{Stand, at_end_law, at_record, stand, same_length}
 
@@ -43,8 +41,8 @@ class_kind k l e (inr h) = absurd (apart (rw (eqb-true k 0x0200 e) at (known_bot
 
 -- ---- free of 2 and 3
 module _ (t u : List ℕ) where
-  good_by : (b c : Bool) (p o m n : ℕ) (x y : TableReading) → (IsGood x → IsGood y)
-      → IsGood (pick b (pick c (Fault NameTwice p) x) (malformed_at m)) → IsGood (pick b (pick c (Fault NameTwice o) y) (malformed_at n))
+  good_by : (b c : Bool) (p o m n : ℕ) (x y : Reading) → (IsGood x → IsGood y)
+      → IsGood (pick b (pick c (Err (name_twice p)) x) (malformed_at m)) → IsGood (pick b (pick c (Err (name_twice o)) y) (malformed_at n))
   good_by true true p o m n x y h g = g
   good_by true false p o m n x y h g = h g
   good_by false c p o m n x y h g = g
@@ -56,7 +54,7 @@ module _ (t u : List ℕ) where
       rw (sym w.1, known_same k l w.0)
       (good_by (ltb (length names) 128 && is_property k (part t a n)) (among (part t a n) names) p o p o _ _ (properties_good (names ++ (part t a n ∷ [])) r) g)
 
-  class_by : (b : Bool) (p o : ℕ) (x y : TableReading) → (IsGood x → IsGood y) → IsGood (pick b x (malformed_at p)) → IsGood (pick b y (malformed_at o))
+  class_by : (b : Bool) (p o : ℕ) (x y : Reading) → (IsGood x → IsGood y) → IsGood (pick b x (malformed_at p)) → IsGood (pick b y (malformed_at o))
   class_by true p o x y h g = h g
   class_by false p o x y h g = g
 
@@ -96,11 +94,11 @@ module _ (t u : List ℕ) where
         go (at_record e f z r) = rw (e, f) (sym z.1, r)
 
 -- ---- the property of a name
-pub data FoundWider : Found → Found → Type 0 where
-  not_found : FoundWider Absent Absent
-  found : {n k l : ℕ} → Widens k l → FoundWider (Property n k) (Property n l)
+pub data FoundWider : Option Property → Option Property → Type 0 where
+  not_found : FoundWider None None
+  found : {n k l : ℕ} → Widens k l → FoundWider (properties-found.found n k) (properties-found.found n l)
 
-found_by : (b : Bool) (number k l : ℕ) (x y : Found) → Widens k l → FoundWider x y → FoundWider (pick b (Property number k) x) (pick b (Property number l) y)
+found_by : (b : Bool) (number k l : ℕ) (x y : Option Property) → Widens k l → FoundWider x y → FoundWider (pick b (properties-found.found number k) x) (pick b (properties-found.found number l) y)
 found_by true number k l x y h g = found h
 found_by false number k l x y h g = g
 

@@ -5,8 +5,9 @@ use mathlib.Core.List.{List}
 use mathlib.Core.Logic.{inl, inr}
 use lib.ListN.{length}
 use Rattle.table.specs.Properties.{kinds_of}
-use Rattle.table.specs.declared.lookup.Found.{Found}
-use Rattle.table.specs.declared.lookup.Found.TheVariants as found
+use Rattle.std.specs.Prelude.{None, Option, Some}
+use Rattle.table.specs.declared.lookup.Property as lookup
+use Rattle.table.specs.Properties.{found}
 use Rattle.table.proofs.Find.{found_at}
 use Rattle.syntax.specs.declared.path.Path.{Path}
 use Rattle.syntax.specs.declared.right_side.RightSide.{RightSide}
@@ -20,16 +21,16 @@ use Rattle.judge.proofs.Named.{named_found}
 use Rattle.invariance.proofs.Members.{all_joined, distinct_member, distinct_once}
 
 module _ (q t : List ℕ) where
-  path_within : (p : Path) (n k : ℕ) → named q t p ≡ found.Property n k → n < length (kinds_of t)
+  path_within : (p : Path) (n k : ℕ) → named q t p ≡ found n k → n < length (kinds_of t)
   path_within p n k e = let f = named_found q t p n k e in (found_at t f.name n k f.is).within
 
   property_within : (p : Path) (n : ℕ) → Member n (property_of (named q t p)) → n < length (kinds_of t)
   property_within p n h = go (named q t p) refl h
     where
-      go : (x : Found) → named q t p ≡ x → Member n (property_of x) → n < length (kinds_of t)
-      go (found.Property m k) e (inl d) = rw d (path_within p m k e)
-      go (found.Property m k) e (inr w) = elim w [ ]
-      go found.Absent e w = absurd w
+      go : (x : Option lookup.Property) → named q t p ≡ x → Member n (property_of x) → n < length (kinds_of t)
+      go (Some x) e (inl d) = rw d (path_within p x.number x.kind e)
+      go (Some x) e (inr w) = elim w [ ]
+      go None e w = absurd w
 
   right_within : (r : RightSide) (n : ℕ) → Member n (named_right q t r) → n < length (kinds_of t)
   right_within (Literal x) n h = absurd h

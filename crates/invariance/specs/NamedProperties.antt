@@ -1,9 +1,8 @@
 -- 02 Q-3: "every property the query names, in any of its comparisons", and "The property set is that of the text, skipped comparisons included."
 -- A property goes by its number in the table, counted from 0, so that two spellings of one property are one.
-use Rattle.std.specs.Prelude.{ℕ, List, [], ◌∷◌, ◌++◌, ◌≡◌, ◌⊎◌, eqb}
+use Rattle.std.specs.Prelude.{ℕ, List, [], ◌∷◌, ◌++◌, ◌≡◌, ◌⊎◌, eqb, None, Option, Some}
 use Rattle.base.specs.Pick.{pick}
-use Rattle.table.specs.declared.lookup.Found.{Found}
-use Rattle.table.specs.declared.lookup.Found.TheVariants as found
+use Rattle.table.specs.declared.lookup.Property as lookup
 use Rattle.syntax.specs.declared.right_side.RightSide.{RightSide}
 use Rattle.syntax.specs.declared.right_side.RightSide.TheVariants.{Literal, Elements, Property, Pattern}
 use Rattle.syntax.specs.declared.comparison.Comparison.{Comparison}
@@ -12,9 +11,9 @@ use Rattle.operand.specs.Named.{named}
 use Rattle.filter.specs.Refusal.{Call, refused, compares, call_of}
 
 -- the property that a path names, if there is one
-abbrev pub property_of : Found → List ℕ
-property_of (found.Property number kind) = number ∷ []
-property_of found.Absent = []
+abbrev pub property_of : Option lookup.Property → List ℕ
+property_of (Some p) = p.number ∷ []
+property_of None = []
 
 abbrev pub named_right : (query table : List ℕ) → RightSide → List ℕ
 named_right q t (Literal x) = []

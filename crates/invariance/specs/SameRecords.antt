@@ -1,6 +1,6 @@
 -- 02 Q-3: "two conforming instances that hold the same records for every property the query names, in any of its comparisons, give the same answer and the same steps,
 -- however else they differ."
-use Rattle.std.specs.Prelude.{ℕ, suc, ◌≤◌, ◌<◌, List, [], ◌∷◌, ◌++◌, ◌≡◌, length, get_or, take, drop}
+use Rattle.std.specs.Prelude.{ℕ, suc, ◌≤◌, ◌<◌, List, [], ◌∷◌, ◌++◌, ◌≡◌, length, get_or, take, drop, Ok, Result}
 use Rattle.base.specs.Part.{part}
 use Rattle.record.specs.Record.{record_at}
 use Rattle.record.specs.Kind.{kind_of}
@@ -15,6 +15,7 @@ use Rattle.filter.specs.declared.refusal.Answer.{Answer}
 use Rattle.filter.specs.declared.refusal.Answer.TheVariants.{Included, Excluded}
 use Rattle.mark.specs.Mark.{mark, marks_after}
 use Rattle.invariance.specs.NamedProperties.{Member}
+use Rattle.filter.specs.declared.refusal.Refusal.{Refusal}
 
 -- what an instance holds for a property: a record, which is its kind and its body, or nothing
 pub data Held : Type 0 where
@@ -38,9 +39,9 @@ abbrev pub SameValues : (numbers table instance other : List ℕ) → Type 0
 SameValues ns t i j = (n : ℕ) → Member n ns → environment t i n ≡ environment t j n
 
 -- both included or both excluded, in as many steps
-pub data SameVerdict : Answer → Answer → Type 0 where
-  included : {n : ℕ} → SameVerdict (Included n) (Included n)
-  excluded : {n : ℕ} → SameVerdict (Excluded n) (Excluded n)
+pub data SameVerdict : Result Answer Refusal → Result Answer Refusal → Type 0 where
+  included : {n : ℕ} → SameVerdict (Ok (Included n)) (Ok (Included n))
+  excluded : {n : ℕ} → SameVerdict (Ok (Excluded n)) (Ok (Excluded n))
 
 -- ---- a change to one property
 -- all others have the same records

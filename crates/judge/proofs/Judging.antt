@@ -1,4 +1,10 @@
 -- Laws of a whole comparison: one for each exit of `src/lib.rt`.
+use Rattle.table.specs.Properties.{found}
+use Rattle.std.specs.Prelude.{Err, Some, None, Result, Option as Optional, Option}
+use Rattle.operand.specs.declared.cause.ComparisonRefusal.{ComparisonRefusal}
+use Rattle.judge.specs.declared.fault.ItemFault.{ItemFault}
+use Rattle.short_circuit.specs.declared.Told.{Told}
+use Rattle.place.specs.declared.Located.{Located}
 use Prim.Native.Nat.{ℕ}
 use mathlib.Core.Path.{◌≡◌, refl, sym, ap, ◌∙◌}
 use mathlib.Core.List.{List}
@@ -9,12 +15,10 @@ use Rattle.record.specs.Kind.{kind_of}
 use Rattle.record.specs.declared.kind.ValueType.{ValueType}
 use Rattle.record.specs.declared.kind.Kind.{Kind}
 use Rattle.record.specs.declared.kind.Kind.TheVariants.{Unknown, Scalar, Array}
-use Rattle.table.specs.declared.lookup.Found.{Found}
-use Rattle.table.specs.declared.lookup.Found.TheVariants as found
+use Rattle.table.specs.declared.lookup.Property.{Property}
 use Rattle.token.specs.declared.Token.{Token}
 use Rattle.terminal.specs.declared.quantifier.Quantifier.{Quantifier}
 use Rattle.syntax.specs.declared.path.Path as path
-use Rattle.syntax.specs.declared.path.Index.{Index}
 use Rattle.syntax.specs.declared.comparison.Comparison.{Comparison}
 use Rattle.instance.specs.Value.{Value, Entry, value_at}
 use Rattle.instance.specs.Noted.{place_noted}
@@ -22,58 +26,53 @@ use Rattle.operand.specs.declared.cause.Cause.TheVariants as cause
 use Rattle.operand.specs.Named.{named}
 use Rattle.operand.specs.Element.{element_tokens}
 use Rattle.operand.specs.PatternLiteral.{pattern_of}
-use Rattle.place.specs.declared.Body.{Body}
+use Rattle.place.specs.declared.Part.{Part}
 use Rattle.place.specs.Place.{body_at, body_value}
-use Rattle.judge.specs.declared.Judged.{Judged}
-use Rattle.judge.specs.declared.Judged.TheVariants.{Fails}
 use Rattle.judge.specs.declared.left.Left as code-left
-use Rattle.judge.specs.declared.left.Typed.{Typed}
-use Rattle.judge.specs.declared.left.Typed.TheVariants as typing
 use Rattle.judge.specs.declared.right.Right as code-right
 use Rattle.judge.specs.declared.right.Right.TheVariants as side
-use Rattle.judge.specs.declared.right.ItemRead.{ItemRead}
 use Rattle.judge.specs.Meaning as meaning
 use Rattle.judge.specs.Meaning.{Left, left_scalar, left_array, elements, not_null, of_row, pattern_by, right_of, meet, meant_by, meant_as}
 use Rattle.judge.specs.Environment.{entry_noted}
-use Rattle.judge.specs.Answers.{judged, left_seen, right_seen, item_read, ScalarLeft, ArrayLeft, type_of, left_kind, LeftOf, KindLeft}
+use Rattle.judge.specs.Answers.{judged, left_seen, right_seen, item_read, ScalarLeft, ArrayLeft, type_of, left_kind, LeftOf, KindLeft, refusal}
 use Rattle.judge.proofs.Named.{entry_there}
 use Rattle.judge.proofs.RightSides.{scalar_of_law, array_of}
 
 -- both sides
 module _ (c : Comparison) (q i : List ℕ) (of : ValueType) (l : Left) (r : code-right.Right) where
-  abbrev Sides : code-right.Right → Judged → Type 0
+  abbrev Sides : code-right.Right → Result Told ComparisonRefusal → Type 0
   Sides x j = j ≡ judged (meet c.left c.operation of.family l (right_seen of.family q i x))
 
-  pub sides_missing : (p : ℕ) → r ≡ side.Missing p → Sides r (Fails cause.Name p)
+  pub sides_missing : (p : ℕ) → r ≡ side.Missing p → Sides r (Err (refusal cause.Name p))
   unfolding judged meet right_seen
   sides_missing p e = rw e refl
 
-  pub sides_unindexable : r ≡ side.Unindexable → Sides r (Fails cause.Shape c.left.start)
+  pub sides_unindexable : r ≡ side.Unindexable → Sides r (Err (refusal cause.Shape c.left.start))
   unfolding judged meet right_seen
   sides_unindexable e = rw e refl
 
-  pub sides_one : (n : Bool) (y : ItemRead) → r ≡ side.One n y → {j : Judged}
+  pub sides_one : (n : Bool) (y : Result Located ItemFault) → r ≡ side.One n y → {j : Result Told ComparisonRefusal}
       → j ≡ judged (meet c.left c.operation of.family l (meaning.Right.one n (item_read q i y))) → Sides r j
   unfolding right_seen
   sides_one n y e h = rw e h
 
-  pub sides_elements : (start count : ℕ) → r ≡ side.Elements start count → {j : Judged}
+  pub sides_elements : (start count : ℕ) → r ≡ side.Elements start count → {j : Result Told ComparisonRefusal}
       → j ≡ judged (meet c.left c.operation of.family l (meaning.Right.many (not_null (elements of.family q (element_tokens q start count))))) → Sides r j
   unfolding right_seen
   sides_elements start count e h = rw e h
 
-  pub sides_many : (same : Bool) (t : ValueType) (b : Body) → r ≡ side.Many same t b → {j : Judged}
+  pub sides_many : (same : Bool) (t : ValueType) (b : Optional Part) → r ≡ side.Many same t b → {j : Result Told ComparisonRefusal}
       → j ≡ judged (meet c.left c.operation of.family l (meaning.Right.many (of_row same (meaning.value (body_value t i b))))) → Sides r j
   unfolding right_seen
   sides_many same t b e h = rw e h
 
-  pub sides_pattern : (t : Token) → r ≡ side.Pattern t → {j : Judged}
+  pub sides_pattern : (t : Token) → r ≡ side.Pattern t → {j : Result Told ComparisonRefusal}
       → j ≡ judged (meet c.left c.operation of.family l (meaning.pattern (pattern_by t.start (pattern_of q t)))) → Sides r j
   unfolding right_seen
   sides_pattern t e h = rw e h
 
 -- the left property by its kind: `left_of`
-module _ (q i : List ℕ) (k : Quantifier) (index : Index) (kind place : ℕ) {r : Kind} (er : r ≡ kind_of kind) where
+module _ (q i : List ℕ) (k : Quantifier) (index : Option Token) (kind place : ℕ) {r : Kind} (er : r ≡ kind_of kind) where
   pub left_unknown : r ≡ Unknown → kind_of kind ≡ Unknown
   left_unknown e = sym er ∙ e
 
@@ -90,7 +89,7 @@ module _ (q i : List ℕ) (k : Quantifier) (index : Index) (kind place : ℕ) {r
         seen = el of q i ∙ ap (left_scalar k index) (sym (scalar_of_law kind i place of (sym er ∙ e))) ∙ as_kind (Scalar of) e;
       }
 
-  pub left_array_law : (element : ℕ) (of : ValueType) → r ≡ Array element of → {b : Body} → b ≡ body_at i place → (l : code-left.Left) → ArrayLeft q i k index b l → IsLeft of l
+  pub left_array_law : (element : ℕ) (of : ValueType) → r ≡ Array element of → {b : Optional Part} → b ≡ body_at i place → (l : code-left.Left) → ArrayLeft q i k index b l → IsLeft of l
   left_array_law element of e eb l el =
       record {
         type = ap type_of (sym er ∙ e);
@@ -108,25 +107,25 @@ module _ (q i : List ℕ) (env : path.Path → Entry) (c : Comparison) where
   of_type (Scalar t) v of e = let z : t ≡ of = cc in rw z refl
   of_type (Array element t) v of e = let z : t ≡ of = cc in rw z refl
 
-  module _ (k : Kind) (v : Value) {r : Typed} (er : KindLeft q i c.left.quantifier c.left.index k v r) where
-    pub untyped : r ≡ typing.Untyped → Fails cause.Name c.left.path.first.start ≡ judged (meant_by q env c k v)
+  module _ (k : Kind) (v : Value) {r : Optional (ValueType × code-left.Left)} (er : KindLeft q i c.left.quantifier c.left.index k v r) where
+    pub untyped : r ≡ None → Err (refusal cause.Name c.left.path.first.start) ≡ judged (meant_by q env c k v)
     unfolding meant_by judged
     untyped e = let z : k ≡ Unknown = rw e at er in rw z refl
 
-    pub typed : (of : ValueType) (l : code-left.Left) → r ≡ typing.Of of l → (x : code-right.Right) → right_seen of.family q i x ≡ right_of of.family q env c.right
-        → {j : Judged} → j ≡ judged (meet c.left c.operation of.family (left_seen of q i l) (right_seen of.family q i x)) → j ≡ judged (meant_by q env c k v)
+    pub typed : (of : ValueType) (l : code-left.Left) → r ≡ Some (of, l) → (x : code-right.Right) → right_seen of.family q i x ≡ right_of of.family q env c.right
+        → {j : Result Told ComparisonRefusal} → j ≡ judged (meet c.left c.operation of.family (left_seen of q i l) (right_seen of.family q i x)) → j ≡ judged (meant_by q env c k v)
     typed of l e x ex h =
         let z : LeftOf q i c.left.quantifier c.left.index k v of l = rw e at er in
         h ∙ rw (z.seen, ex) (sym (ap judged (of_type k v of z.type)))
 
 -- its name
-module _ (q t i notes : List ℕ) (c : Comparison) {r : Found} (er : r ≡ named q t c.left.path) where
-  pub left_absent : r ≡ found.Absent → Fails cause.Name c.left.path.first.start ≡ judged (meaning.meaning q (entry_noted q t i notes) c)
+module _ (q t i notes : List ℕ) (c : Comparison) {r : Option Property} (er : r ≡ named q t c.left.path) where
+  pub left_absent : r ≡ None → Err (refusal cause.Name c.left.path.first.start) ≡ judged (meaning.meaning q (entry_noted q t i notes) c)
   unfolding meaning.meaning meant_as judged entry_noted
   left_absent e = rw (← er, e) refl
 
-  pub left_found : (number kind : ℕ) → r ≡ found.Property number kind → {place : ℕ} → place ≡ place_noted notes number
-      → {j : Judged} → j ≡ judged (meant_by q (entry_noted q t i notes) c (kind_of kind) (value_at kind i place)) → j ≡ judged (meaning.meaning q (entry_noted q t i notes) c)
+  pub left_found : (number kind : ℕ) → r ≡ found number kind → {place : ℕ} → place ≡ place_noted notes number
+      → {j : Result Told ComparisonRefusal} → j ≡ judged (meant_by q (entry_noted q t i notes) c (kind_of kind) (value_at kind i place)) → j ≡ judged (meaning.meaning q (entry_noted q t i notes) c)
   unfolding meaning.meaning meant_as
   left_found number kind e ep h =
       h ∙ ap (λ (x : ℕ). judged (meant_by q (entry_noted q t i notes) c (kind_of kind) (value_at kind i x))) ep

@@ -1,4 +1,5 @@
 -- A comparison that stands in two texts which are alike means the same in both: it fails for the same cause, or is the same test of values.
+use Rattle.std.specs.Prelude.{Option as Optional, None, Some}
 use Prim.Native.Nat.{ℕ, zero, suc, ◌+◌, ◌≤◌, ◌<◌}
 use mathlib.Core.Path.{◌≡◌, refl, sym, ap, ◌∙◌, subst}
 use mathlib.Core.List.{List}
@@ -13,8 +14,7 @@ use Rattle.record.specs.Kind.{kind_of, same_row}
 use Rattle.record.specs.declared.kind.Family.{Family}
 use Rattle.record.specs.declared.kind.Kind.{Kind}
 use Rattle.record.specs.declared.kind.Kind.TheVariants.{Unknown, Scalar, Array}
-use Rattle.table.specs.Properties.{class_name, find_property}
-use Rattle.table.specs.declared.lookup.Found.TheVariants as found
+use Rattle.table.specs.Properties.{class_name, find_property, found}
 use Rattle.token.specs.declared.Token.{Token}
 use Rattle.token.specs.Token.{token_after}
 use Rattle.token.proofs.Bounds.{nth_from}
@@ -25,7 +25,6 @@ use Rattle.terminal.specs.declared.quantifier.Quantifier.TheVariants.{Single, An
 use Rattle.terminal.specs.Terminal.{inside}
 use Rattle.terminal.proofs.Inside.{inside_token}
 use Rattle.syntax.specs.declared.path.Path.{Path}
-use Rattle.syntax.specs.declared.path.Index.{Index}
 use Rattle.syntax.specs.declared.operation.Operation.{Operation}
 use Rattle.syntax.specs.declared.left_side.LeftSide.{LeftSide}
 use Rattle.syntax.specs.declared.right_side.RightSide.{RightSide}
@@ -36,8 +35,6 @@ use Rattle.syntax.proofs.Simulation.{Both, Paths, one_name, more_names, Indices,
 use Rattle.syntax.proofs.Local.{Group, Nth, nth, placed, below}
 use Rattle.instance.specs.Value.{ScalarValue, Value, Entry, absent, property, environment}
 use Rattle.operand.specs.declared.cause.Cause.{Cause}
-use Rattle.operand.specs.declared.index.IndexRead.{IndexRead}
-use Rattle.operand.specs.declared.index.IndexRead.TheVariants.{Reads, TooLarge}
 use Rattle.operand.specs.Index.{index_of}
 use Rattle.operand.specs.LiteralReading.{LiteralReading, misfit, out_of_range, malformed, reads, read_literal}
 use Rattle.operand.specs.Element.{next_element, elements_from, first_element, element_tokens}
@@ -127,9 +124,9 @@ literal_at_alike m n out_of_range = faults
 literal_at_alike m n malformed = faults
 literal_at_alike m n (reads v) = values_of
 
-indexed_at_alike : (m n : ℕ) (x : IndexRead) (xs : test.Array) → SameRead (indexed_by m x xs) (indexed_by n x xs)
-indexed_at_alike m n (Reads i) xs = values_of
-indexed_at_alike m n TooLarge xs = faults
+indexed_at_alike : (m n : ℕ) (x : Optional ℕ) (xs : test.Array) → SameRead (indexed_by m x xs) (indexed_by n x xs)
+indexed_at_alike m n (Some i) xs = values_of
+indexed_at_alike m n None xs = faults
 
 pattern_at_alike : (m n : ℕ) (x : Option (Regex ℕ)) → SameRead (pattern_by m x) (pattern_by n x)
 pattern_at_alike m n none = faults
@@ -197,8 +194,8 @@ module _ {q r : List ℕ} {a b k l : ℕ} {t u : Token} {n : ℕ} (G : Group q r
     named_alike {p} {o} h = go (path_named h) (eqb o.names 1) refl (eqb o.names 2) refl
       where
         go : Named p o → (c : Bool) → eqb o.names 1 ≡ c → (d : Bool) → eqb o.names 2 ≡ d
-            → pick (eqb p.names 1) (find_property table (spanned q p.first)) (pick (eqb p.names 2 && same_name (class_name table) (spanned q p.first)) (find_property table (spanned q p.second)) found.Absent)
-            ≡ pick (eqb o.names 1) (find_property table (spanned r o.first)) (pick (eqb o.names 2 && same_name (class_name table) (spanned r o.first)) (find_property table (spanned r o.second)) found.Absent)
+            → pick (eqb p.names 1) (find_property table (spanned q p.first)) (pick (eqb p.names 2 && same_name (class_name table) (spanned q p.first)) (find_property table (spanned q p.second)) None)
+            ≡ pick (eqb o.names 1) (find_property table (spanned r o.first)) (pick (eqb o.names 2 && same_name (class_name table) (spanned r o.first)) (find_property table (spanned r o.second)) None)
         go f true e d g = rw (f.names, e) (ap (find_property table) f.firsts)
         go f false e true g =
             let z = eqb-true o.names 2 g in
@@ -213,14 +210,14 @@ module _ {q r : List ℕ} {a b k l : ℕ} {t u : Token} {n : ℕ} (G : Group q r
     indexed_alike : {x y : Token} → Pair x y → (xs : test.Array) → SameRead (indexed q x xs) (indexed r y xs)
     indexed_alike {x} {y} p xs = rw (index_stays G.alike (kept p).places (kept p).stands) (indexed_at_alike x.start y.start (index_of r y) xs)
 
-    scalar_left : (m : Quantifier) {i j : Index} → Indices (scan q) (scan r) R i j → (v : Option ScalarValue) → SameLeft (left_scalar m i v) (left_scalar m j v)
+    scalar_left : (m : Quantifier) {i j : Optional Token} → Indices (scan q) (scan r) R i j → (v : Option ScalarValue) → SameLeft (left_scalar m i v) (left_scalar m j v)
     unfolding left_scalar
     scalar_left Single no_index v = one_each values_of
     scalar_left Single (an_index p) v = misshapen_both
     scalar_left Any i v = misshapen_both
     scalar_left Every i v = misshapen_both
 
-    array_left : (m : Quantifier) {i j : Index} → Indices (scan q) (scan r) R i j → (xs : test.Array) → SameLeft (left_array q m i xs) (left_array r m j xs)
+    array_left : (m : Quantifier) {i j : Optional Token} → Indices (scan q) (scan r) R i j → (xs : test.Array) → SameLeft (left_array q m i xs) (left_array r m j xs)
     unfolding left_array
     array_left Single no_index xs = many_each
     array_left Single (an_index p) xs = one_each (indexed_alike p xs)
@@ -274,7 +271,7 @@ module _ {q r : List ℕ} {a b k l : ℕ} {t u : Token} {n : ℕ} (G : Group q r
         let k = kept p in
         rw (k.stands, k.other_stands) (elements_alike f (token_after q x) (token_after r y) m 0 (λ j h. (listed e).each j (omega arith)))
 
-    right_kind_law : (f : Family) (m n : ℕ) {i j : Index} → Indices (scan q) (scan r) R i j → (x : Kind) (v : Value) → SameRight (right_kind f q m i x v) (right_kind f r n j x v)
+    right_kind_law : (f : Family) (m n : ℕ) {i j : Optional Token} → Indices (scan q) (scan r) R i j → (x : Kind) (v : Value) → SameRight (right_kind f q m i x v) (right_kind f r n j x v)
     unfolding right_kind right_scalar right_array
     right_kind_law f m n h Unknown v = missing_both
     right_kind_law f m n no_index (Scalar x) v = one_each (of_row_alike (same_row f x.family) values_of)
@@ -282,7 +279,7 @@ module _ {q r : List ℕ} {a b k l : ℕ} {t u : Token} {n : ℕ} (G : Group q r
     right_kind_law f m n no_index (Array e x) v = many_each (of_row_alike (same_row f x.family) values_of)
     right_kind_law f m n (an_index p) (Array e x) v = one_each (of_row_alike (same_row f x.family) (indexed_alike p (as_array v)))
 
-    right_entry : (f : Family) (m n : ℕ) {i j : Index} → Indices (scan q) (scan r) R i j → (x : Entry) → SameRight (right_property f q m i x) (right_property f r n j x)
+    right_entry : (f : Family) (m n : ℕ) {i j : Optional Token} → Indices (scan q) (scan r) R i j → (x : Entry) → SameRight (right_property f q m i x) (right_property f r n j x)
     unfolding right_property
     right_entry f m n h absent = missing_both
     right_entry f m n h (property x v) = right_kind_law f m n h (kind_of x) v

@@ -1,4 +1,8 @@
 -- Laws of the two sides of a comparison: one for each exit of `src/left.rt` and `src/right.rt`.
+use Rattle.std.specs.Prelude.{Ok, Err, Some, None, Result, Option as Optional}
+use Rattle.operand.specs.declared.cause.ComparisonRefusal.{ComparisonRefusal}
+use Rattle.judge.specs.declared.fault.ItemFault.{ItemFault}
+use Rattle.judge.specs.declared.fault.ItemFault.TheVariants.{Unlike, Faulty}
 use Prim.Native.Nat.{ℕ, zero, suc, ◌+◌, ◌-◌, ◌≤◌, ◌<◌}
 use mathlib.Core.Path.{◌≡◌, refl, sym, ap, ◌∙◌}
 use mathlib.Core.List.{List, [], ◌∷◌}
@@ -16,8 +20,6 @@ use Rattle.record.proofs.Records.{records_whole, records_broken, records_end}
 use Rattle.token.specs.declared.Token.{Token}
 use Rattle.terminal.specs.declared.quantifier.Quantifier.{Quantifier}
 use Rattle.terminal.specs.declared.quantifier.Quantifier.TheVariants.{Single, Any, Every}
-use Rattle.syntax.specs.declared.path.Index.{Index}
-use Rattle.syntax.specs.declared.path.Index.TheVariants.{Whole, At}
 use Rattle.instance.specs.Start.{next_of, start_of}
 use Rattle.instance.specs.Value as value
 use Rattle.instance.specs.Value.{ScalarValue}
@@ -25,10 +27,6 @@ use Rattle.value.specs.Item.{item_value}
 use Rattle.value.specs.Read.{value_in, value_in_record}
 use Rattle.operand.specs.declared.cause.Cause.{Cause}
 use Rattle.operand.specs.declared.cause.Cause.TheVariants as cause
-use Rattle.operand.specs.declared.index.IndexRead.{IndexRead}
-use Rattle.operand.specs.declared.index.IndexRead.TheVariants.{Reads, TooLarge}
-use Rattle.operand.specs.declared.literal_read.LiteralRead.{LiteralRead}
-use Rattle.operand.specs.declared.literal_read.LiteralRead.TheVariants as literal-read
 use Rattle.operand.specs.Index.{index_of}
 use Rattle.operand.specs.LiteralReading.{LiteralReading, misfit, out_of_range, malformed, reads, read_literal}
 use Rattle.operand.specs.Answers.{reading_of}
@@ -36,19 +34,15 @@ use Rattle.operand.specs.Element.{next_element, elements_from, first_element, el
 use Rattle.place.specs.declared.Source.TheVariants as source
 use Rattle.place.specs.declared.Spot.{Spot}
 use Rattle.place.specs.declared.Located.{Located}
-use Rattle.place.specs.declared.Body.{Body}
-use Rattle.place.specs.declared.Body.TheVariants as body
+use Rattle.place.specs.declared.Part.{Part}
 use Rattle.place.specs.Place.{source_bytes, spot_value, located_value, body_value, value_read, literal_values}
-use Rattle.judge.specs.declared.left.SpotRead.{SpotRead}
-use Rattle.judge.specs.declared.left.SpotRead.TheVariants as spot
 use Rattle.judge.specs.declared.left.Left.TheVariants as code
-use Rattle.judge.specs.declared.right.ItemRead.{ItemRead}
-use Rattle.judge.specs.declared.right.ItemRead.TheVariants as item
-use Rattle.judge.specs.declared.right.ListRead.{ListRead}
-use Rattle.judge.specs.declared.right.ListRead.TheVariants as list
 use Rattle.judge.specs.Meaning as meaning
 use Rattle.judge.specs.Meaning.{Read, unlike, faulty, element_of, left_scalar, left_array, literal_at, literal, before, elements, of_row}
-use Rattle.judge.specs.Answers.{spot_read, left_seen, item_read, list_read, list_before, ElementIn, IndexedIn, ScalarLeft, ArrayLeft, ListOf}
+use Rattle.judge.specs.Answers.{spot_read, left_seen, item_read, list_read, list_before, ElementIn, IndexedIn, ScalarLeft, ArrayLeft, ListOf, refusal, fault_read, fault_before}
+use Rattle.value.specs.declared.item.Item.{Item}
+use Rattle.operand.specs.declared.literal_read.ReadFault.{ReadFault}
+use Rattle.operand.specs.declared.literal_read.ReadFault.TheVariants as ReadFault
 
 -- ---- an element by its index is the value in the record that starts there
 module _ (t : ValueType) (s : List ℕ) where
@@ -81,31 +75,31 @@ module _ (t : ValueType) (s : List ℕ) where
       ∙ ap (λ (k : ℕ). get_or (value.elements t s (records s 0)) k none) (let e : n + 0 ≡ n = omega arith in e)
 
 -- ---- src/left.rt
-module _ (i : List ℕ) (x : Body) (n : ℕ) where
-  pub element_null : x ≡ body.Null → ElementIn i x n (record { source = source.Part 0 0; place = 0 })
+module _ (i : List ℕ) (x : Optional Part) (n : ℕ) where
+  pub element_null : x ≡ None → ElementIn i x n (record { source = source.Part (record { start = 0; length = 0 }); place = 0 })
   unfolding body_value element_of value_in_record record_at
   element_null e t q = rw e refl
 
-  pub element_there : (start len : ℕ) {s : List ℕ} {place : ℕ} → x ≡ body.At start len → s ≡ part i start len → place ≡ start_of s n
-      → ElementIn i x n (record { source = source.Part start len; place = place })
+  pub element_there : (p : Part) {s : List ℕ} {place : ℕ} → x ≡ Some p → s ≡ part i p.start p.length → place ≡ start_of s n
+      → ElementIn i x n (record { source = source.Part p; place = place })
   unfolding body_value element_of
-  element_there start len e es h t q = rw (e, h, es) (element_start t (part i start len) n)
+  element_there p e es h t q = rw (e, h, es) (element_start t (part i p.start p.length) n)
 
-module _ (q i : List ℕ) (x : Body) (k : Token) {r : IndexRead} (er : r ≡ index_of q k) where
-  pub indexed_reads : (n : ℕ) → r ≡ Reads n → (s : Spot) → ElementIn i x n s → IndexedIn q i k x (spot.At s)
+module _ (q i : List ℕ) (x : Optional Part) (k : Token) {r : Optional ℕ} (er : r ≡ index_of q k) where
+  pub indexed_reads : (n : ℕ) → r ≡ Some n → (s : Spot) → ElementIn i x n s → IndexedIn q i k x (Ok s)
   unfolding spot_read
   indexed_reads n e s h t = rw (← er, e) (ap meaning.value (h t q))
 
-  pub indexed_large : r ≡ TooLarge → IndexedIn q i k x (spot.TooLarge k.start)
+  pub indexed_large : r ≡ None → IndexedIn q i k x (Err k.start)
   unfolding spot_read
   indexed_large e t = rw (← er, e) refl
 
-module _ (k : Quantifier) (index : Index) (place : ℕ) where
-  pub scalar_one : k ≡ Single → index ≡ Whole → ScalarLeft k index place (code.One (spot.At (record { source = source.Instance; place = place })))
+module _ (k : Quantifier) (index : Optional Token) (place : ℕ) where
+  pub scalar_one : k ≡ Single → index ≡ None → ScalarLeft k index place (code.One (Ok (record { source = source.Instance; place = place })))
   unfolding left_seen spot_read left_scalar
   scalar_one e f t q i = rw (e, f) refl
 
-  pub scalar_indexed : (x : Token) → k ≡ Single → index ≡ At x → ScalarLeft k index place code.Misshapen
+  pub scalar_indexed : (x : Token) → k ≡ Single → index ≡ Some x → ScalarLeft k index place code.Misshapen
   unfolding left_seen left_scalar
   scalar_indexed x e f t q i = rw (e, f) refl
 
@@ -117,12 +111,12 @@ module _ (k : Quantifier) (index : Index) (place : ℕ) where
   unfolding left_seen left_scalar
   scalar_every e t q i = rw e refl
 
-module _ (q i : List ℕ) (k : Quantifier) (index : Index) (x : Body) where
-  pub array_whole : k ≡ Single → index ≡ Whole → ArrayLeft q i k index x (code.Many x)
+module _ (q i : List ℕ) (k : Quantifier) (index : Optional Token) (x : Optional Part) where
+  pub array_whole : k ≡ Single → index ≡ None → ArrayLeft q i k index x (code.Many x)
   unfolding left_seen left_array
   array_whole e f t = rw (e, f) refl
 
-  pub array_indexed : (y : Token) → k ≡ Single → index ≡ At y → (s : SpotRead) → IndexedIn q i y x s → ArrayLeft q i k index x (code.One s)
+  pub array_indexed : (y : Token) → k ≡ Single → index ≡ Some y → (s : Result Spot ℕ) → IndexedIn q i y x s → ArrayLeft q i k index x (code.One s)
   unfolding left_seen left_array
   array_indexed y e f s h t = rw (e, f) (ap meaning.Left.one (h t))
 
@@ -135,26 +129,23 @@ module _ (q i : List ℕ) (k : Quantifier) (index : Index) (x : Body) where
   array_every e t = rw e refl
 
 -- ---- src/right.rt
-module _ (f : Family) (q i : List ℕ) (t : Token) {r : LiteralRead} (er : reading_of q r ≡ read_literal f q t) where
-  pub literal_unlike : r ≡ literal-read.Misfit → item_read q i item.Unlike ≡ literal f q t
+module _ (f : Family) (q i : List ℕ) (t : Token) {r : Result Item ReadFault} (er : reading_of q r ≡ read_literal f q t) where
+  pub literal_fault : (w : ReadFault) → r ≡ Err w → {v : ItemFault} → v ≡ fault_read t.start w → item_read q i (Err v) ≡ literal f q t
   unfolding item_read reading_of
-  literal_unlike e = sym (ap (literal_at t.start) (sym er ∙ ap (reading_of q) e))
+  literal_fault w e ev = ap (λ (x : ItemFault). item_read q i (Err x)) ev ∙ go w ∙ ap (literal_at t.start) (sym (ap (reading_of q) e) ∙ er)
+    where
+      go : (w : ReadFault) → item_read q i (Err (fault_read t.start w)) ≡ literal_at t.start (reading_of q (Err w))
+      go ReadFault.Misfit = refl
+      go ReadFault.OutOfRange = refl
+      go ReadFault.Malformed = refl
 
-  pub literal_range : r ≡ literal-read.OutOfRange → item_read q i (item.Faulty cause.Range t.start) ≡ literal f q t
-  unfolding item_read reading_of
-  literal_range e = sym (ap (literal_at t.start) (sym er ∙ ap (reading_of q) e))
-
-  pub literal_malformed : r ≡ literal-read.Malformed → item_read q i (item.Faulty cause.Datetime t.start) ≡ literal f q t
-  unfolding item_read reading_of
-  literal_malformed e = sym (ap (literal_at t.start) (sym er ∙ ap (reading_of q) e))
-
-  pub literal_value_law : (x : Rattle.value.specs.declared.item.Item.Item) → r ≡ literal-read.Value x → (y : Located) → (y.source ≡ source.Query) × (y.item ≡ x)
-      → item_read q i (item.Value y) ≡ literal f q t
+  pub literal_value_law : (x : Rattle.value.specs.declared.item.Item.Item) → r ≡ Ok x → (y : Located) → (y.source ≡ source.Query) × (y.item ≡ x)
+      → item_read q i (Ok y) ≡ literal f q t
   unfolding item_read reading_of
   literal_value_law x e y h = rw (h.0, h.1) (sym (ap (literal_at t.start) (sym er ∙ ap (reading_of q) e)))
 
-module _ (q i : List ℕ) (of : ValueType) (same : Bool) (x : SpotRead) where
-  pub row_unlike : not same ≡ true → item_read q i item.Unlike ≡ of_row same (spot_read of q i x)
+module _ (q i : List ℕ) (of : ValueType) (same : Bool) (x : Result Spot ℕ) where
+  pub row_unlike : not same ≡ true → item_read q i (Err Unlike) ≡ of_row same (spot_read of q i x)
   unfolding item_read
   row_unlike h = by same h
     where
@@ -169,26 +160,23 @@ module _ (q i : List ℕ) (of : ValueType) (same : Bool) (x : SpotRead) where
       by true h = refl
       by false h = let z : ◌≡◌ {A = ℕ} 0 1 = cc in absurd (omega arith)
 
-  pub row_large : not same ≡ false → (p : ℕ) → x ≡ spot.TooLarge p → item_read q i (item.Faulty cause.Range p) ≡ of_row same (spot_read of q i x)
+  pub row_large : not same ≡ false → (p : ℕ) → x ≡ Err p → item_read q i (Err (Faulty (refusal cause.Range p))) ≡ of_row same (spot_read of q i x)
   unfolding item_read spot_read
-  row_large h p e = of_row_law h (faulty cause.Range p) ∙ ap (λ (y : SpotRead). of_row same (spot_read of q i y)) (sym e)
+  row_large h p e = of_row_law h (faulty cause.Range p) ∙ ap (λ (y : Result Spot ℕ). of_row same (spot_read of q i y)) (sym e)
 
-  pub row_value : not same ≡ false → (s : Spot) → x ≡ spot.At s → (y : Located) → located_value q i y ≡ spot_value of q i s
-      → item_read q i (item.Value y) ≡ of_row same (spot_read of q i x)
+  pub row_value : not same ≡ false → (s : Spot) → x ≡ Ok s → (y : Located) → located_value q i y ≡ spot_value of q i s
+      → item_read q i (Ok y) ≡ of_row same (spot_read of q i x)
   unfolding item_read spot_read
   row_value h s e y f =
-      ap meaning.value f ∙ of_row_law h (meaning.value (spot_value of q i s)) ∙ ap (λ (z : SpotRead). of_row same (spot_read of q i z)) (sym e)
+      ap meaning.value f ∙ of_row_law h (meaning.value (spot_value of q i s)) ∙ ap (λ (z : Result Spot ℕ). of_row same (spot_read of q i z)) (sym e)
 
-module _ (y : ItemRead) where
-  pub list_unlike : y ≡ item.Unlike → ListOf y list.Unlike
+module _ (y : Result Located ItemFault) where
+  pub list_err : (f : ItemFault) → y ≡ Err f → ListOf y (Err f)
   unfolding list_read item_read
-  list_unlike e q i = rw e refl
+  list_err Unlike e q i = rw e refl
+  list_err (Faulty w) e q i = rw e refl
 
-  pub list_faulty : (c : Cause) (p : ℕ) → y ≡ item.Faulty c p → ListOf y (list.Faulty c p)
-  unfolding list_read item_read
-  list_faulty c p e q i = rw e refl
-
-  pub list_good : (x : Located) → y ≡ item.Value x → ListOf y list.Good
+  pub list_good : (x : Located) → y ≡ Ok x → ListOf y (Ok tt)
   unfolding list_read item_read
   list_good x e q i = rw e refl
 
@@ -197,17 +185,22 @@ pub record_located : (q i : List ℕ) (of : ValueType) (s : Spot) {a : List ℕ}
     → item_value a x ≡ value_in_record of a s.place → located_value q i (record { source = s.source; item = x }) ≡ spot_value of q i s
 record_located q i of s x ea h = rw (← ea) h
 
-module _ (a b : ListRead) (c : Cause) (p : ℕ) (e : a ≡ list.Faulty c p) where
-  pub before_fault : (d : Cause) (o : ℕ) → b ≡ list.Faulty d o → list.Faulty c p ≡ list_before a b
-  before_fault d o f = rw (e, f) refl
+module _ (a b : Result (Unit {0}) ItemFault) where
+  pub before_ok : (u : Unit {0}) → a ≡ Ok u → b ≡ list_before a b
+  before_ok u e = rw e refl
 
-  pub before_good : b ≡ list.Good → list.Faulty c p ≡ list_before a b
-  before_good f = rw (e, f) refl
+  pub before_good : (f : ItemFault) (u : Unit {0}) → a ≡ Err f → b ≡ Ok u → Err f ≡ list_before a b
+  before_good f u e h = rw (e, h) refl
+
+  pub before_fault : (f g : ItemFault) → a ≡ Err f → b ≡ Err g → {w : ItemFault} → w ≡ fault_before f g → Err w ≡ list_before a b
+  before_fault f g e h ew = rw (e, h, ew) refl
 
 -- the elements of an array literal, one after the other
 list_before_law : (x : Read (Option ScalarValue)) (r : Read (List (Option ScalarValue))) → list_read (before x r) ≡ list_before (list_read x) (list_read r)
 unfolding list_read
-list_before_law unlike r = refl
+list_before_law unlike unlike = refl
+list_before_law unlike (faulty d o) = refl
+list_before_law unlike (meaning.value xs) = refl
 list_before_law (faulty c p) unlike = refl
 list_before_law (faulty c p) (faulty d o) = refl
 list_before_law (faulty c p) (meaning.value xs) = refl
@@ -215,37 +208,39 @@ list_before_law (meaning.value x) unlike = refl
 list_before_law (meaning.value x) (faulty d o) = refl
 list_before_law (meaning.value x) (meaning.value xs) = refl
 
-list_assoc : (a b c : ListRead) → list_before (list_before a b) c ≡ list_before a (list_before b c)
-list_assoc list.Unlike b c = refl
-list_assoc list.Good b c = refl
-list_assoc (list.Faulty d p) list.Unlike c = refl
-list_assoc (list.Faulty d p) list.Good c = refl
-list_assoc (list.Faulty d p) (list.Faulty e o) list.Unlike = refl
-list_assoc (list.Faulty d p) (list.Faulty e o) list.Good = refl
-list_assoc (list.Faulty d p) (list.Faulty e o) (list.Faulty f r) = refl
+fault_assoc : (f g h : ItemFault) → fault_before (fault_before f g) h ≡ fault_before f (fault_before g h)
+fault_assoc Unlike g h = refl
+fault_assoc (Faulty w) Unlike h = refl
+fault_assoc (Faulty w) (Faulty v) Unlike = refl
+fault_assoc (Faulty w) (Faulty v) (Faulty u) = refl
 
-list_last : (a : ListRead) → a ≡ list_before a list.Good
-list_last list.Unlike = refl
-list_last list.Good = refl
-list_last (list.Faulty c p) = refl
+list_assoc : (a b c : Result (Unit {0}) ItemFault) → list_before (list_before a b) c ≡ list_before a (list_before b c)
+list_assoc (Ok u) b c = refl
+list_assoc (Err f) (Ok u) c = refl
+list_assoc (Err f) (Err g) (Ok u) = refl
+list_assoc (Err f) (Err g) (Err h) = ap Err (fault_assoc f g h)
+
+list_last : (a : Result (Unit {0}) ItemFault) → a ≡ list_before a (Ok tt)
+list_last (Ok tt) = refl
+list_last (Err f) = refl
 
 pub elements_begin : (f : Family) (q : List ℕ) (start count : ℕ) {t : Token} → t ≡ first_element q start
-    → list_read (elements f q (element_tokens q start count)) ≡ list_before list.Good (list_read (elements f q (elements_from q t count)))
+    → list_read (elements f q (element_tokens q start count)) ≡ list_before (Ok tt) (list_read (elements f q (elements_from q t count)))
 elements_begin f q start count e = rw e refl
 
-module _ (f : Family) (q : List ℕ) (t : Token) (left : ℕ) (seen : ListRead) {whole : ListRead} (i : whole ≡ list_before seen (list_read (elements f q (elements_from q t left)))) where
+module _ (f : Family) (q : List ℕ) (t : Token) (left : ℕ) (seen : Result (Unit {0}) ItemFault) {whole : Result (Unit {0}) ItemFault} (i : whole ≡ list_before seen (list_read (elements f q (elements_from q t left)))) where
   pub elements_end : left ≤ 0 → seen ≡ whole
   unfolding elements elements_from list_read
   elements_end h = list_last seen ∙ sym (i ∙ ap (λ (k : ℕ). list_before seen (list_read (elements f q (elements_from q t k)))) (let e : left ≡ 0 = omega arith in e))
 
-  pub elements_next : 0 < left → (o : ItemRead) → item_read q q o ≡ literal f q t → (y : ListRead) → ListOf o y → (z : ListRead) → z ≡ list_before seen y
+  pub elements_next : 0 < left → (o : Result Located ItemFault) → item_read q q o ≡ literal f q t → (y : Result (Unit {0}) ItemFault) → ListOf o y → (z : Result (Unit {0}) ItemFault) → z ≡ list_before seen y
       → (u : Token) → u ≡ next_element q t → whole ≡ list_before z (list_read (elements f q (elements_from q u (left - 1))))
   unfolding elements elements_from
   elements_next h o eo y ey z ez u eu =
       i ∙ ap (λ (k : ℕ). list_before seen (list_read (elements f q (elements_from q t k)))) (let e : left ≡ suc (left - 1) = omega arith in e)
       ∙ ap (list_before seen) (list_before_law (literal f q t) (elements f q (elements_from q (next_element q t) (left - 1))))
       ∙ sym (list_assoc seen (list_read (literal f q t)) (list_read (elements f q (elements_from q (next_element q t) (left - 1)))))
-      ∙ ap (λ (w : ListRead). list_before w (list_read (elements f q (elements_from q (next_element q t) (left - 1))))) (ap (list_before seen) (sym (ey q q ∙ ap list_read eo)) ∙ sym ez)
+      ∙ ap (λ (w : Result (Unit {0}) ItemFault). list_before w (list_read (elements f q (elements_from q (next_element q t) (left - 1))))) (ap (list_before seen) (sym (ey q q ∙ ap list_read eo)) ∙ sym ez)
       ∙ ap (λ (w : Token). list_before z (list_read (elements f q (elements_from q w (left - 1))))) (sym eu)
 
 -- the values of elements that are all good
@@ -273,11 +268,11 @@ elements_values f q [] xs e = cc
 elements_values f q (t ∷ ts) xs e =
     one_more_law t.start (read_literal f q t) (elements f q ts) (literal_values f q ts) (elements_values f q ts) (literal f q t) refl xs e
 
-pub elements_good : (f : Family) (q : List ℕ) (ts : List Token) → list.Good ≡ list_read (elements f q ts) → elements f q ts ≡ meaning.value (literal_values f q ts)
+pub elements_good : (f : Family) (q : List ℕ) (ts : List Token) → (Ok tt) ≡ list_read (elements f q ts) → elements f q ts ≡ meaning.value (literal_values f q ts)
 unfolding list_read
 elements_good f q ts e = go (elements f q ts) refl e
   where
-    go : (r : Read (List (Option ScalarValue))) → elements f q ts ≡ r → list.Good ≡ list_read r → r ≡ meaning.value (literal_values f q ts)
+    go : (r : Read (List (Option ScalarValue))) → elements f q ts ≡ r → (Ok tt) ≡ list_read r → r ≡ meaning.value (literal_values f q ts)
     go unlike h g = let z : ◌≡◌ {A = ℕ} 0 1 = cc in absurd (omega arith)
     go (faulty c p) h g = let z : ◌≡◌ {A = ℕ} 0 1 = cc in absurd (omega arith)
     go (meaning.value xs) h g = ap meaning.value (elements_values f q ts xs h)

@@ -1,15 +1,14 @@
 -- What each path of a query stands for in an instance: the environment of 01 "Instance", by the names of 01 "Query text".
-use Rattle.std.specs.Prelude.{ℕ, List}
-use Rattle.table.specs.declared.lookup.Found.{Found}
-use Rattle.table.specs.declared.lookup.Found.TheVariants as found
+use Rattle.std.specs.Prelude.{ℕ, List, None, Some, Option}
+use Rattle.table.specs.declared.lookup.Property.{Property}
 use Rattle.syntax.specs.declared.path.Path.{Path}
 use Rattle.instance.specs.Value.{Entry, absent, environment}
 use Rattle.instance.specs.Noted.{environment_noted}
 use Rattle.operand.specs.Named.{named}
 
-abbrev pub entry_found : (ℕ → Entry) → Found → Entry
-entry_found env (found.Property number kind) = env number
-entry_found env found.Absent = absent
+abbrev pub entry_found : (ℕ → Entry) → Option Property → Entry
+entry_found env (Some p) = env p.number
+entry_found env None = absent
 
 unfoldable pub entry_named : (query table instance : List ℕ) → Path → Entry
 entry_named q t i p = entry_found (environment t i) (named q t p)

@@ -1,6 +1,6 @@
 -- 01 "Meaning", of one comparison: over its syntax and an environment, which says of each path the kind and the value of its property. "A comparison fails by
 -- itself where a name, shape, kind, operator, index or literal is wrong"; else it is a test of values (predicate/specs/Test), with a truth value and steps.
-use Rattle.std.specs.Prelude.{ℕ, List, [], ◌∷◌, Bool, true, false, not, ◌&&◌, ◌||◌, get_or}
+use Rattle.std.specs.Prelude.{Option as Optional, ℕ, List, [], ◌∷◌, Bool, true, false, not, ◌&&◌, ◌||◌, get_or, None, Some}
 use Rattle.std.proofs.Math.Option.{Option, none, some}
 use Rattle.base.specs.declared.order.Operator.{Operator}
 use Rattle.base.specs.declared.order.Operator.TheVariants.{Equal, Unequal}
@@ -15,8 +15,6 @@ use Rattle.terminal.specs.Terminal.{equality}
 use Rattle.terminal.specs.declared.quantifier.Quantifier.{Quantifier}
 use Rattle.terminal.specs.declared.quantifier.Quantifier.TheVariants.{Single, Any, Every}
 use Rattle.syntax.specs.declared.path.Path.{Path}
-use Rattle.syntax.specs.declared.path.Index.{Index}
-use Rattle.syntax.specs.declared.path.Index.TheVariants.{Whole, At}
 use Rattle.syntax.specs.declared.operation.Operation.{Operation}
 use Rattle.syntax.specs.declared.operation.Operation.TheVariants.{Compare, Like, NotLike}
 use Rattle.syntax.specs.declared.left_side.LeftSide.{LeftSide}
@@ -26,8 +24,6 @@ use Rattle.syntax.specs.declared.comparison.Comparison.{Comparison}
 use Rattle.instance.specs.Value.{ScalarValue, Value, null, single, array, Entry, absent, property}
 use Rattle.operand.specs.declared.cause.Cause.{Cause}
 use Rattle.operand.specs.declared.cause.Cause.TheVariants as cause
-use Rattle.operand.specs.declared.index.IndexRead.{IndexRead}
-use Rattle.operand.specs.declared.index.IndexRead.TheVariants.{Reads, TooLarge}
 use Rattle.operand.specs.Index.{index_of}
 use Rattle.operand.specs.LiteralReading.{LiteralReading, misfit, out_of_range, malformed, reads, read_literal, is_null_literal}
 use Rattle.operand.specs.Element.{element_tokens}
@@ -58,9 +54,9 @@ unfoldable pub element_of : test.Array → (index : ℕ) → Option ScalarValue
 element_of none n = none
 element_of (some xs) n = get_or xs n none
 
-abbrev pub indexed_by : (place : ℕ) → IndexRead → test.Array → Read (Option ScalarValue)
-indexed_by p (Reads n) xs = value (element_of xs n)
-indexed_by p TooLarge xs = faulty cause.Range p
+abbrev pub indexed_by : (place : ℕ) → Optional ℕ → test.Array → Read (Option ScalarValue)
+indexed_by p (Some n) xs = value (element_of xs n)
+indexed_by p None xs = faulty cause.Range p
 
 abbrev pub indexed : (query : List ℕ) → Token → test.Array → Read (Option ScalarValue)
 indexed q i xs = indexed_by i.start (index_of q i) xs
@@ -72,15 +68,15 @@ pub data Left : Type 0 where
   many : test.Array → Left
   each : (any : Bool) → test.Array → Left
 
-unfoldable pub left_scalar : Quantifier → Index → Option ScalarValue → Left
-left_scalar Single Whole x = one (value x)
-left_scalar Single (At i) x = misshapen
+unfoldable pub left_scalar : Quantifier → Optional Token → Option ScalarValue → Left
+left_scalar Single None x = one (value x)
+left_scalar Single (Some i) x = misshapen
 left_scalar Any i x = misshapen
 left_scalar Every i x = misshapen
 
-unfoldable pub left_array : (query : List ℕ) → Quantifier → Index → test.Array → Left
-left_array q Single Whole xs = many xs
-left_array q Single (At i) xs = one (indexed q i xs)
+unfoldable pub left_array : (query : List ℕ) → Quantifier → Optional Token → test.Array → Left
+left_array q Single None xs = many xs
+left_array q Single (Some i) xs = one (indexed q i xs)
 left_array q Any i xs = each true xs
 left_array q Every i xs = each false xs
 
@@ -127,20 +123,20 @@ abbrev pub of_row : {A : Type 0} → Bool → Read A → Read A
 of_row true r = r
 of_row false r = unlike
 
-unfoldable pub right_scalar : (same : Bool) → Index → Option ScalarValue → Right
-right_scalar same Whole x = one false (of_row same (value x))
-right_scalar same (At i) x = unindexable
+unfoldable pub right_scalar : (same : Bool) → Optional Token → Option ScalarValue → Right
+right_scalar same None x = one false (of_row same (value x))
+right_scalar same (Some i) x = unindexable
 
-unfoldable pub right_array : (query : List ℕ) (same : Bool) → Index → test.Array → Right
-right_array q same Whole xs = many (of_row same (value xs))
-right_array q same (At i) xs = one false (of_row same (indexed q i xs))
+unfoldable pub right_array : (query : List ℕ) (same : Bool) → Optional Token → test.Array → Right
+right_array q same None xs = many (of_row same (value xs))
+right_array q same (Some i) xs = one false (of_row same (indexed q i xs))
 
-unfoldable pub right_kind : Family → (query : List ℕ) → (place : ℕ) → Index → Kind → Value → Right
+unfoldable pub right_kind : Family → (query : List ℕ) → (place : ℕ) → Optional Token → Kind → Value → Right
 right_kind f q p i Unknown v = missing p
 right_kind f q p i (Scalar t) v = right_scalar (same_row f t.family) i (as_scalar v)
 right_kind f q p i (Array e t) v = right_array q (same_row f t.family) i (as_array v)
 
-unfoldable pub right_property : Family → (query : List ℕ) → (place : ℕ) → Index → Entry → Right
+unfoldable pub right_property : Family → (query : List ℕ) → (place : ℕ) → Optional Token → Entry → Right
 right_property f q p i absent = missing p
 right_property f q p i (property k v) = right_kind f q p i (kind_of k) v
 

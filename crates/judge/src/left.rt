@@ -5,73 +5,61 @@ ghost use Rattle.judge.specs.Answers.{ElementIn, IndexedIn, ScalarLeft, ArrayLef
 
 use base::bytes::piece;
 use instance::start::start_of;
-use operand::index::{IndexRead, read_index};
-use place::{Body, Source, Spot, body_at};
+use operand::index::read_index;
+use place::{Part, Source, Spot, body_at};
 use record::kind::{Kind, ValueType, kind_of};
-use syntax::path::Index;
 use terminal::quantifier::Quantifier;
 use token::Token;
 
-// The record that is read; or that the index, at this place, is too large.
-#[derive(Drop)]
-pub enum SpotRead {
-    TooLarge(usize),
-    At(Spot),
-}
-
-// In the wrong form; one value; a whole array; ANY (`true`) or EVERY element of one.
+// In the wrong form; one value, or the place of an index that is too large; a whole array; ANY (`true`) or EVERY element of one.
 #[derive(Drop)]
 pub enum Left {
     Misshapen,
-    One(SpotRead),
-    Many(Body),
-    Each(bool, Body),
-}
-
-// The type of the property on the left, with what is read of it; or none, of a kind that there isn't.
-#[derive(Drop)]
-pub enum Typed {
-    Untyped,
-    Of(ValueType, Left),
+    One(Result<Spot, usize>),
+    Many(Option<Part>),
+    Each(bool, Option<Part>),
 }
 
 // The record of an array's element; of NULL none is read.
-fn element_spot(i: &[u8], x: Body, n: usize) -> Spot
+fn element_spot(i: &[u8], x: Option<Part>, n: usize) -> Spot
     ensures { ElementIn i.now x n result }
 {
     match x {
-        Body::Null => Spot {
-            source: Source::Part(0, 0),
+        None => Spot {
+            source: Source::Part(Part {
+                start: 0,
+                length: 0,
+            }),
             place: 0,
         },
-        Body::At(start, len) => Spot {
-            source: Source::Part(start, len),
-            place: start_of(piece(i, start, len), n),
+        Some(part) => Spot {
+            source: Source::Part(part),
+            place: start_of(piece(i, part.start, part.length), n),
         },
     }
 }
 
 // The element of an array at the index of a token.
-pub fn read_indexed<'a>(q: &'a [u8], i: &'a [u8], t: Token, x: Body) -> SpotRead
+pub fn read_indexed<'a>(q: &'a [u8], i: &'a [u8], t: Token, x: Option<Part>) -> Result<Spot, usize>
     ensures { IndexedIn q.now i.now t x result }
 {
     match read_index(q, t) {
-        IndexRead::Reads(n) => SpotRead::At(element_spot(i, x, n)),
-        IndexRead::TooLarge => SpotRead::TooLarge(t.start),
+        Some(n) => Ok(element_spot(i, x, n)),
+        None => Err(t.start),
     }
 }
 
 // Of the scalar in the record at a place.
-fn left_scalar(k: Quantifier, index: Index, place: usize) -> Left
+fn left_scalar(k: Quantifier, index: Option<Token>, place: usize) -> Left
     ensures { ScalarLeft k index place result }
 {
     match k {
         Quantifier::Single => match index {
-            Index::Whole => Left::One(SpotRead::At(Spot {
+            None => Left::One(Ok(Spot {
                 source: Source::Instance,
                 place,
             })),
-            Index::At(_) => Left::Misshapen,
+            Some(_) => Left::Misshapen,
         },
         Quantifier::Any => Left::Misshapen,
         Quantifier::Every => Left::Misshapen,
@@ -79,13 +67,19 @@ fn left_scalar(k: Quantifier, index: Index, place: usize) -> Left
 }
 
 // Of an array.
-fn left_array<'a>(q: &'a [u8], i: &'a [u8], k: Quantifier, index: Index, x: Body) -> Left
+fn left_array<'a>(
+    q: &'a [u8],
+    i: &'a [u8],
+    k: Quantifier,
+    index: Option<Token>,
+    x: Option<Part>,
+) -> Left
     ensures { ArrayLeft q.now i.now k index x result }
 {
     match k {
         Quantifier::Single => match index {
-            Index::Whole => Left::Many(x),
-            Index::At(t) => Left::One(read_indexed(q, i, t, x)),
+            None => Left::Many(x),
+            Some(t) => Left::One(read_indexed(q, i, t, x)),
         },
         Quantifier::Any => Left::Each(true, x),
         Quantifier::Every => Left::Each(false, x),
@@ -97,18 +91,15 @@ pub fn left_of<'a>(
     q: &'a [u8],
     i: &'a [u8],
     k: Quantifier,
-    index: Index,
+    index: Option<Token>,
     kind: usize,
     place: usize,
-) -> Typed
+) -> Option<(ValueType, Left)>
     ensures { KindLeft q.now i.now k index (kind_of kind) (value_at kind i.now place) result }
 {
     match kind_of(kind) {
-        Kind::Unknown => Typed::Untyped,
-        Kind::Scalar(of) => Typed::Of(of, left_scalar(k, index, place)),
-        Kind::Array { element: _, of } => Typed::Of(
-            of,
-            left_array(q, i, k, index, body_at(i, place)),
-        ),
+        Kind::Unknown => None,
+        Kind::Scalar(of) => Some((of, left_scalar(k, index, place))),
+        Kind::Array { element: _, of } => Some((of, left_array(q, i, k, index, body_at(i, place)))),
     }
 }

@@ -7,19 +7,20 @@ ghost use Rattle.operand.specs.Element.{element_tokens};
 ghost use Rattle.operand.specs.PatternLiteral.{pattern_of};
 ghost use Rattle.place.specs.Place.{spot_value, located_value, body_value};
 ghost use Rattle.predicate.specs.Test as test;
+ghost use Rattle.predicate.specs.Test.{performed};
 ghost use Rattle.judge.specs.Meaning as meaning;
 ghost use Rattle.judge.specs.Meaning.{ordered, suits, operator_of, is_negated, both, elements, not_null, of_row, pattern_by, like_text};
-ghost use Rattle.judge.specs.Answers.{judged, spot_read, item_read, left_seen, settled};
+ghost use Rattle.judge.specs.Answers.{judged, spot_read, item_read, left_seen, settled, faulted};
 
-use crate::Judged;
-use crate::left::{Left, SpotRead};
-use crate::right::{ItemRead, ListRead, check_elements};
+use crate::fault::ItemFault;
+use crate::left::Left;
+use crate::right::check_elements;
 use arrays::{compare_bodies, compare_elements};
 use base::order::Operator;
 use like::like;
-use operand::cause::Cause;
+use operand::cause::{Cause, ComparisonRefusal};
 use operand::pattern_literal::is_pattern;
-use place::{Body, Located, Source, Spot, compare_spot};
+use place::{Located, Part, Source, Spot, compare_spot};
 use record::kind::{Family, ValueType, same_row};
 use search::search;
 use short_circuit::Told;
@@ -27,13 +28,6 @@ use syntax::left_side::LeftSide;
 use syntax::operation::Operation;
 use terminal::operator::is_equality;
 use token::Token;
-
-// What is wrong, or the record on the left and the value on the right.
-#[derive(Drop)]
-pub enum Settled {
-    Fails(Cause, usize),
-    Ready(Spot, Located),
-}
 
 fn is_ordered(f: Family) -> bool
     ensures { result ≡ ordered f }
@@ -60,30 +54,42 @@ fn operator_of(o: Operation) -> Operator
 fn is_negated(o: Operation) -> bool
     ensures { result ≡ is_negated o }
 {
-    match o {
-        Operation::Compare(_) => false,
-        Operation::Like => false,
-        Operation::NotLike => true,
+    matches!(o, Operation::NotLike)
+}
+
+// What is wrong with the value on the right, which comes before the index on the left where the value is of another row.
+fn refusal_of(start: usize, x: Result<Spot, usize>, fault: ItemFault) -> ComparisonRefusal
+    ensures { result ≡ faulted start x fault }
+{
+    match fault {
+        ItemFault::Unlike => Cause::Row.at(start),
+        ItemFault::Faulty(refusal) => match x {
+            Ok(_) => refusal,
+            Err(place) => Cause::Range.at(place),
+        },
     }
 }
 
-// The row and the operator, placed at the comparison's start, before what is wrong with an index or a literal itself.
-fn settle(start: usize, allowed: bool, x: SpotRead, y: ItemRead) -> Settled
+// The record on the left and the value on the right, if nothing is wrong. The row and the operator, placed at the comparison's start, come before what is wrong with an
+// index or a literal itself.
+fn settle(
+    start: usize,
+    allowed: bool,
+    x: Result<Spot, usize>,
+    y: Result<Located, ItemFault>,
+) -> Result<(Spot, Located), ComparisonRefusal>
     ensures { result ≡ settled start allowed x y }
 {
     if !allowed {
-        return Settled::Fails(Cause::Row, start);
+        return Err(Cause::Row.at(start));
     }
-    match y {
-        ItemRead::Unlike => Settled::Fails(Cause::Row, start),
-        ItemRead::Faulty(c, p) => match x {
-            SpotRead::TooLarge(place) => Settled::Fails(Cause::Range, place),
-            SpotRead::At(_) => Settled::Fails(c, p),
-        },
-        ItemRead::Value(v) => match x {
-            SpotRead::TooLarge(place) => Settled::Fails(Cause::Range, place),
-            SpotRead::At(s) => Settled::Ready(s, v),
-        },
+    let value = match y {
+        Ok(value) => value,
+        Err(fault) => return Err(refusal_of(start, x, fault)),
+    };
+    match x {
+        Ok(spot) => Ok((spot, value)),
+        Err(place) => Err(Cause::Range.at(place)),
     }
 }
 
@@ -94,13 +100,13 @@ fn tell_values<'a>(
     of: ValueType,
     x: Spot,
     y: Located,
-) -> Judged
-    ensures { result ≡ judged (meaning.means (test.values op (spot_value of q.now i.now x) (located_value q.now i.now y))) }
+) -> Told
+    ensures { result ≡ performed (test.values op (spot_value of q.now i.now x) (located_value q.now i.now y)) }
 {
-    Judged::Tells(Told {
+    Told {
         holds: compare_spot(op, q, i, of, x, y),
         steps: 1,
-    })
+    }
 }
 
 // One value beside one value.
@@ -111,15 +117,13 @@ fn judge_values<'a>(
     q: &'a [u8],
     i: &'a [u8],
     of: ValueType,
-    x: SpotRead,
-    y: ItemRead,
-) -> Judged
+    x: Result<Spot, usize>,
+    y: Result<Located, ItemFault>,
+) -> Result<Told, ComparisonRefusal>
     ensures { result ≡ judged (both start allowed (spot_read of q.now i.now x) (item_read q.now i.now y) (test.values op)) }
 {
-    match settle(start, allowed, x, y) {
-        Settled::Fails(c, p) => Judged::Fails(c, p),
-        Settled::Ready(s, v) => tell_values(op, q, i, of, s, v),
-    }
+    let (spot, value) = settle(start, allowed, x, y)?;
+    Ok(tell_values(op, q, i, of, spot, value))
 }
 
 // ANY or EVERY element of an array beside one value.
@@ -131,20 +135,18 @@ fn judge_search<'a>(
     i: &'a [u8],
     of: ValueType,
     any: bool,
-    x: Body,
-    y: ItemRead,
-) -> Judged
+    x: Option<Part>,
+    y: Result<Located, ItemFault>,
+) -> Result<Told, ComparisonRefusal>
     ensures { result ≡ judged (both a.start allowed (meaning.value (body_value of i.now x)) (item_read q.now i.now y) (test.search a.negated any op)) }
 {
     // the record on the left plays no part here
-    let none = SpotRead::At(Spot {
+    let none = Ok(Spot {
         source: Source::Instance,
         place: 0,
     });
-    match settle(a.start, allowed, none, y) {
-        Settled::Fails(c, p) => Judged::Fails(c, p),
-        Settled::Ready(_, v) => Judged::Tells(search(a.negated, any, op, q, i, of, x, v)),
-    }
+    let (_, value) = settle(a.start, allowed, none, y)?;
+    Ok(search(a.negated, any, op, q, i, of, x, value))
 }
 
 // A left side beside one value.
@@ -156,18 +158,17 @@ pub fn meet_one<'a>(
     of: ValueType,
     l: Left,
     null: bool,
-    y: ItemRead,
-) -> Judged
+    y: Result<Located, ItemFault>,
+) -> Result<Told, ComparisonRefusal>
     ensures { result ≡ judged (meaning.meet a o of.family (left_seen of q.now i.now l) (meaning.Right.one null (item_read q.now i.now y))) }
 {
     let op = operator_of(o);
     let family = of.family;
     let allowed = is_suitable(op, family, null);
     match l {
-        Left::Misshapen => Judged::Fails(Cause::Shape, a.start),
         Left::One(x) => judge_values(op, a.start, allowed, q, i, of, x, y),
-        Left::Many(_) => Judged::Fails(Cause::Shape, a.start),
         Left::Each(any, x) => judge_search(op, a, allowed, q, i, of, any, x, y),
+        _ => Err(Cause::Shape.at(a.start)),
     }
 }
 
@@ -178,20 +179,19 @@ fn judge_elements<'a>(
     q: &'a [u8],
     i: &'a [u8],
     of: ValueType,
-    x: Body,
+    x: Option<Part>,
     from: usize,
     count: usize,
-) -> Judged
+) -> Result<Told, ComparisonRefusal>
     ensures { result ≡ judged (both start (equality op) (meaning.value (body_value of i.now x)) (not_null (elements of.family q.now (element_tokens q.now from count))) (test.arrays op)) }
 {
     if !is_equality(op) {
-        return Judged::Fails(Cause::Row, start);
+        return Err(Cause::Row.at(start));
     }
     let family = of.family;
     match check_elements(family, q, from, count) {
-        ListRead::Unlike => Judged::Fails(Cause::Row, start),
-        ListRead::Faulty(c, p) => Judged::Fails(c, p),
-        ListRead::Good => Judged::Tells(compare_elements(op, q, i, of, x, from, count)),
+        Ok(()) => Ok(compare_elements(op, q, i, of, x, from, count)),
+        Err(fault) => Err(fault.refused_at(start)),
     }
 }
 
@@ -205,14 +205,12 @@ pub fn meet_elements<'a>(
     l: Left,
     from: usize,
     count: usize,
-) -> Judged
+) -> Result<Told, ComparisonRefusal>
     ensures { result ≡ judged (meaning.meet a o of.family (left_seen of q.now i.now l) (meaning.Right.many (not_null (elements of.family q.now (element_tokens q.now from count))))) }
 {
     match l {
-        Left::Misshapen => Judged::Fails(Cause::Shape, a.start),
-        Left::One(_) => Judged::Fails(Cause::Shape, a.start),
         Left::Many(x) => judge_elements(operator_of(o), a.start, q, i, of, x, from, count),
-        Left::Each(_, _) => Judged::Fails(Cause::Shape, a.start),
+        _ => Err(Cause::Shape.at(a.start)),
     }
 }
 
@@ -222,17 +220,17 @@ fn judge_bodies(
     start: usize,
     i: &[u8],
     of: ValueType,
-    x: Body,
+    x: Option<Part>,
     same: bool,
     with: ValueType,
-    y: Body,
-) -> Judged
+    y: Option<Part>,
+) -> Result<Told, ComparisonRefusal>
     ensures { result ≡ judged (both start (equality op) (meaning.value (body_value of i.now x)) (of_row same (meaning.value (body_value with i.now y))) (test.arrays op)) }
 {
     if is_equality(op) & same {
-        return Judged::Tells(compare_bodies(op, i, of, x, with, y));
+        return Ok(compare_bodies(op, i, of, x, with, y));
     }
-    Judged::Fails(Cause::Row, start)
+    Err(Cause::Row.at(start))
 }
 
 // A left side beside an array of the instance.
@@ -245,15 +243,13 @@ pub fn meet_body<'a>(
     l: Left,
     same: bool,
     with: ValueType,
-    y: Body,
-) -> Judged
+    y: Option<Part>,
+) -> Result<Told, ComparisonRefusal>
     ensures { result ≡ judged (meaning.meet a o of.family (left_seen of q.now i.now l) (meaning.Right.many (of_row same (meaning.value (body_value with i.now y))))) }
 {
     match l {
-        Left::Misshapen => Judged::Fails(Cause::Shape, a.start),
-        Left::One(_) => Judged::Fails(Cause::Shape, a.start),
         Left::Many(x) => judge_bodies(operator_of(o), a.start, i, of, x, same, with, y),
-        Left::Each(_, _) => Judged::Fails(Cause::Shape, a.start),
+        _ => Err(Cause::Shape.at(a.start)),
     }
 }
 
@@ -264,24 +260,23 @@ fn judge_like<'a>(
     q: &'a [u8],
     i: &'a [u8],
     of: ValueType,
-    x: SpotRead,
+    x: Result<Spot, usize>,
     t: Token,
-) -> Judged
+) -> Result<Told, ComparisonRefusal>
     ensures { result ≡ judged (both start (same_row of.family Family.Text) (spot_read of q.now i.now x) (pattern_by t.start (pattern_of q.now t)) (like_text negated)) }
 {
     let family = of.family;
     if !same_row(family, Family::Text) {
-        return Judged::Fails(Cause::Row, start);
+        return Err(Cause::Row.at(start));
     }
-    match x {
-        SpotRead::TooLarge(place) => Judged::Fails(Cause::Range, place),
-        SpotRead::At(s) => {
-            if !is_pattern(q, t) {
-                return Judged::Fails(Cause::Pattern, t.start);
-            }
-            Judged::Tells(like(q, i, t, negated, of, s))
-        }
+    let spot = match x {
+        Ok(spot) => spot,
+        Err(place) => return Err(Cause::Range.at(place)),
+    };
+    if !is_pattern(q, t) {
+        return Err(Cause::Pattern.at(t.start));
     }
+    Ok(like(q, i, t, negated, of, spot))
 }
 
 // A left side under a pattern.
@@ -293,13 +288,11 @@ pub fn meet_pattern<'a>(
     of: ValueType,
     l: Left,
     t: Token,
-) -> Judged
+) -> Result<Told, ComparisonRefusal>
     ensures { result ≡ judged (meaning.meet a o of.family (left_seen of q.now i.now l) (meaning.pattern (pattern_by t.start (pattern_of q.now t)))) }
 {
     match l {
-        Left::Misshapen => Judged::Fails(Cause::Shape, a.start),
         Left::One(x) => judge_like(is_negated(o), a.start, q, i, of, x, t),
-        Left::Many(_) => Judged::Fails(Cause::Shape, a.start),
-        Left::Each(_, _) => Judged::Fails(Cause::Shape, a.start),
+        _ => Err(Cause::Shape.at(a.start)),
     }
 }

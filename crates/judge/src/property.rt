@@ -6,37 +6,37 @@ ghost use Rattle.judge.specs.Meaning.{right_kind, right_property, right_of};
 ghost use Rattle.judge.specs.Environment.{entry_noted};
 ghost use Rattle.judge.specs.Answers.{right_seen, ScalarRight, ArrayRight};
 
-use crate::left::{SpotRead, read_indexed};
+use crate::left::read_indexed;
 use crate::right::{Right, literal_at, value_of_row};
 use instance::notes::place_noted;
 use operand::literal_read::is_null_literal;
 use operand::name::find_named;
-use place::{Body, Source, Spot, body_at};
+use place::{Part, Source, Spot, body_at};
 use record::kind::{Family, Kind, ValueType, kind_of, same_row};
-use syntax::path::{Index, Path};
+use syntax::path::Path;
 use syntax::right_side::RightSide;
-use table::lookup::Found;
+use token::Token;
 
 // A scalar, in the record at a place.
 fn right_scalar<'a>(
     q: &'a [u8],
     i: &'a [u8],
     same: bool,
-    index: Index,
+    index: Option<Token>,
     with: ValueType,
     place: usize,
 ) -> Right
     ensures { ScalarRight q.now i.now same index with place result }
 {
     match index {
-        Index::Whole => {
-            let x = SpotRead::At(Spot {
+        None => {
+            let x = Ok(Spot {
                 source: Source::Instance,
                 place,
             });
             Right::One(false, value_of_row(same, q, i, with, x))
         }
-        Index::At(_) => Right::Unindexable,
+        Some(_) => Right::Unindexable,
     }
 }
 
@@ -44,15 +44,15 @@ fn right_array<'a>(
     q: &'a [u8],
     i: &'a [u8],
     same: bool,
-    index: Index,
+    index: Option<Token>,
     with: ValueType,
-    body: Body,
+    body: Option<Part>,
 ) -> Right
     ensures { ArrayRight q.now i.now same index with body result }
 {
     match index {
-        Index::Whole => Right::Many(same, with, body),
-        Index::At(t) => Right::One(
+        None => Right::Many(same, with, body),
+        Some(t) => Right::One(
             false,
             value_of_row(same, q, i, with, read_indexed(q, i, t, body)),
         ),
@@ -65,7 +65,7 @@ fn right_kind<'a>(
     i: &'a [u8],
     family: Family,
     name: usize,
-    index: Index,
+    index: Option<Token>,
     kind: usize,
     place: usize,
 ) -> Right
@@ -102,23 +102,23 @@ fn right_property<'a>(
     notes: &[usize],
     family: Family,
     p: Path,
-    index: Index,
+    index: Option<Token>,
 ) -> Right
     ensures { right_seen family q.now i.now result ≡ right_property family q.now p.first.start index (entry_noted q.now t.now i.now notes.now p) }
 {
     let first = p.first;
-    match find_named(q, t, p) {
-        Found::Absent => Right::Missing(first.start),
-        Found::Property { number, kind } => right_kind(
-            q,
-            i,
-            family,
-            first.start,
-            index,
-            kind,
-            place_noted(notes, number),
-        ),
-    }
+    let Some(property) = find_named(q, t, p) else {
+        return Right::Missing(first.start);
+    };
+    right_kind(
+        q,
+        i,
+        family,
+        first.start,
+        index,
+        property.kind,
+        place_noted(notes, property.number),
+    )
 }
 
 // The right side beside a property of a family.
@@ -134,7 +134,7 @@ pub fn right_of<'a>(
 {
     match right {
         RightSide::Literal(x) => Right::One(is_null_literal(x), literal_at(family, q, i, x)),
-        RightSide::Elements(from, count, _) => Right::Elements(from, count),
+        RightSide::Elements { start, count, .. } => Right::Elements(start, count),
         RightSide::Property(p, index) => right_property(q, t, i, notes, family, p, index),
         RightSide::Pattern(x) => Right::Pattern(x),
     }

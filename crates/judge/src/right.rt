@@ -5,11 +5,11 @@ ghost use Rattle.place.specs.Place.{spot_value, located_value};
 ghost use Rattle.judge.specs.Meaning.{literal, elements, of_row};
 ghost use Rattle.judge.specs.Answers.{item_read, spot_read, list_read, list_before, ListOf};
 
-use crate::left::SpotRead;
+use crate::fault::ItemFault;
 use operand::cause::Cause;
 use operand::element::{first_element, next_element};
-use operand::literal_read::{LiteralRead, read_literal};
-use place::{Body, Located, Source, Spot, bytes_of};
+use operand::literal_read::read_literal;
+use place::{Located, Part, Source, Spot, bytes_of};
 use record::kind::{Family, ValueType};
 use token::Token;
 use value::item::Item;
@@ -21,26 +21,10 @@ use value::read::item_at;
 pub enum Right {
     Missing(usize),
     Unindexable,
-    One(bool, ItemRead),
+    One(bool, Result<Located, ItemFault>),
     Elements(usize, usize),
-    Many(bool, ValueType, Body),
+    Many(bool, ValueType, Option<Part>),
     Pattern(Token),
-}
-
-// One value: of another row; wrong in itself, with its place; or the value.
-#[derive(Drop)]
-pub enum ItemRead {
-    Unlike,
-    Faulty(Cause, usize),
-    Value(Located),
-}
-
-// The elements of an array literal: one of another row; the first that is wrong in itself, with its place; or all good.
-#[derive(Drop)]
-pub enum ListRead {
-    Unlike,
-    Faulty(Cause, usize),
-    Good,
 }
 
 fn in_query(item: Item) -> Located
@@ -53,14 +37,17 @@ fn in_query(item: Item) -> Located
 }
 
 // A literal beside a property of a family.
-pub fn literal_at<'a>(family: Family, q: &'a [u8], i: &'a [u8], t: Token) -> ItemRead
+pub fn literal_at<'a>(
+    family: Family,
+    q: &'a [u8],
+    i: &'a [u8],
+    t: Token,
+) -> Result<Located, ItemFault>
     ensures { item_read q.now i.now result ≡ literal family q.now t }
 {
     match read_literal(family, q, t) {
-        LiteralRead::Misfit => ItemRead::Unlike,
-        LiteralRead::OutOfRange => ItemRead::Faulty(Cause::Range, t.start),
-        LiteralRead::Malformed => ItemRead::Faulty(Cause::Datetime, t.start),
-        LiteralRead::Value(x) => ItemRead::Value(in_query(x)),
+        Ok(x) => Ok(in_query(x)),
+        Err(fault) => Err(ItemFault::of_literal(fault, t.start)),
     }
 }
 
@@ -79,54 +66,52 @@ pub fn value_of_row<'a>(
     q: &'a [u8],
     i: &'a [u8],
     of: ValueType,
-    x: SpotRead,
-) -> ItemRead
+    x: Result<Spot, usize>,
+) -> Result<Located, ItemFault>
     ensures { item_read q.now i.now result ≡ of_row same (spot_read of q.now i.now x) }
 {
     if !same {
-        return ItemRead::Unlike;
+        return Err(ItemFault::Unlike);
     }
     match x {
-        SpotRead::TooLarge(place) => ItemRead::Faulty(Cause::Range, place),
-        SpotRead::At(s) => ItemRead::Value(located(q, i, of, s)),
+        Ok(s) => Ok(located(q, i, of, s)),
+        Err(place) => Err(ItemFault::Faulty(Cause::Range.at(place))),
     }
 }
 
-fn list_of(y: ItemRead) -> ListRead
+// What is wrong with an element, without its value.
+fn fault_of(y: Result<Located, ItemFault>) -> Result<(), ItemFault>
     ensures { ListOf y result }
 {
     match y {
-        ItemRead::Unlike => ListRead::Unlike,
-        ItemRead::Faulty(c, p) => ListRead::Faulty(c, p),
-        ItemRead::Value(_) => ListRead::Good,
+        Ok(_) => Ok(()),
+        Err(fault) => Err(fault),
     }
 }
 
-fn before(a: ListRead, b: ListRead) -> ListRead
+// What is wrong with some elements, and with later ones.
+#[tactic(auto, using(crate::proofs::Sides::before_ok, crate::proofs::Sides::before_good, crate::proofs::Sides::before_fault))]
+fn before(a: Result<(), ItemFault>, b: Result<(), ItemFault>) -> Result<(), ItemFault>
     ensures { result ≡ list_before a b }
 {
     match a {
-        ListRead::Unlike => ListRead::Unlike,
-        ListRead::Faulty(c, p) => match b {
-            ListRead::Unlike => ListRead::Unlike,
-            ListRead::Faulty(_, _) => ListRead::Faulty(c, p),
-            ListRead::Good => ListRead::Faulty(c, p),
+        Ok(()) => b,
+        Err(first) => match b {
+            Ok(()) => a,
+            Err(later) => Err(first.before(later)),
         },
-        ListRead::Good => b,
     }
 }
 
-// The elements of the array literal of `count` elements that starts at a place, beside an array of a family.
-pub fn check_elements(family: Family, q: &[u8], start: usize, count: usize) -> ListRead
+// Whether the elements of the array literal of `count` elements that starts at a place can be compared with an array of a family; if not, what is wrong.
+pub fn check_elements(family: Family, q: &[u8], start: usize, count: usize) -> Result<(), ItemFault>
     ensures { result ≡ list_read (elements family q.now (element_tokens q.now start count)) }
 {
     let mut t = first_element(q, start);
-    let mut left = count;
-    let mut seen = ListRead::Good;
-    while 0 < left {
-        seen = before(seen, list_of(literal_at(family, q, q, t)));
+    let mut seen = Ok(());
+    for _before in 0..count {
+        seen = before(seen, fault_of(literal_at(family, q, q, t)));
         t = next_element(q, t);
-        left -= 1;
     }
     seen
 }

@@ -1,4 +1,5 @@
 -- A token's sort is that of its literal: the value is of that sort, only numbers are out of range, and there is no literal exactly of no sort.
+use Rattle.std.specs.Prelude.{ℤ, None, Option, Some, Err, Ok, Result}
 use Prim.Native.Nat.{ℕ, ◌-◌}
 use mathlib.Core.Path.{◌≡◌, refl}
 use mathlib.Core.List.{List}
@@ -6,14 +7,9 @@ use mathlib.Core.Bool.{Bool, true, false, ◌&&◌}
 use lib.Dec.{eqb}
 use Rattle.base.specs.Pick.{pick}
 use Rattle.base.specs.Digit.{size_under}
-use Rattle.base.specs.declared.digit.Size.{Size}
-use Rattle.base.specs.declared.digit.Size.TheVariants.{Fits, TooLarge}
-use Rattle.base.specs.declared.integer.Whole.{Whole}
 use Rattle.numeral.specs.Numeral.{signed}
 use Rattle.real.specs.declared.Real.{Real}
 use Rattle.real.specs.Real.{real_of, exponent_of}
-use Rattle.real.specs.declared.Ranged.{Ranged}
-use Rattle.real.specs.declared.Ranged.TheVariants as Ranged
 use Rattle.token.specs.declared.Form.{Form}
 use Rattle.token.specs.declared.Form.TheVariants as Form
 use Rattle.token.specs.declared.Reserved.{Reserved}
@@ -29,14 +25,14 @@ use Rattle.literal.specs.declared.sort.Sort.{Sort}
 use Rattle.literal.specs.declared.sort.Sort.TheVariants as Sort
 use Rattle.literal.specs.declared.Literal.{Literal}
 use Rattle.literal.specs.declared.Literal.TheVariants as Literal
-use Rattle.literal.specs.declared.Decoded.{Decoded}
-use Rattle.literal.specs.declared.Decoded.TheVariants.{Is, OutOfRange, NoLiteral}
+use Rattle.literal.specs.declared.LiteralFault.TheVariants.{OutOfRange, NoLiteral}
+use Rattle.literal.specs.declared.LiteralFault.{LiteralFault}
 
 -- a value of a sort; hex digits make an integer or octets
 pub data OfSort : Sort → Literal → Type 0 where
   truth : {b : Bool} → OfSort Sort.Truth (Literal.Truth b)
-  integer : {w : Whole} → OfSort Sort.Integer (Literal.Integer w)
-  hex : {w : Whole} → OfSort Sort.Hex (Literal.Integer w)
+  integer : {w : ℤ} → OfSort Sort.Integer (Literal.Integer w)
+  hex : {w : ℤ} → OfSort Sort.Hex (Literal.Integer w)
   octets : {s e : ℕ} → OfSort Sort.Hex (Literal.Octets s e)
   real : {x : Real} → OfSort Sort.Real (Literal.Real x)
   text : {s e : ℕ} → OfSort Sort.Text (Literal.Text s e)
@@ -48,33 +44,35 @@ pub data Ranging : Sort → Type 0 where
   hex : Ranging Sort.Hex
   real : Ranging Sort.Real
 
-abbrev pub Sorted : Sort → Decoded → Type 0
-Sorted s (Is v) = OfSort s v
-Sorted s OutOfRange = Ranging s
-Sorted s NoLiteral = s ≡ Sort.NoLiteral
+abbrev pub Sorted : Option Sort → Result Literal LiteralFault → Type 0
+Sorted s (Err NoLiteral) = s ≡ None
+Sorted (Some s) (Ok v) = OfSort s v
+Sorted (Some s) (Err OutOfRange) = Ranging s
+Sorted None (Ok v) = ⊥
+Sorted None (Err OutOfRange) = ⊥
 
 module _ (octets-asked : Bool) (q : List ℕ) where
-  integer_sorted : (s : Sort) → ((w : Whole) → OfSort s (Literal.Integer w)) → Ranging s → (n : Bool) (m : Size) → Sorted s (integer_by n m)
+  integer_sorted : (s : Sort) → ((w : ℤ) → OfSort s (Literal.Integer w)) → Ranging s → (n : Bool) (m : Option ℕ) → Sorted (Some s) (integer_by n m)
   unfolding integer_by
-  integer_sorted s f r n (Fits m) = f _
-  integer_sorted s f r n TooLarge = r
+  integer_sorted s f r n (Some m) = f _
+  integer_sorted s f r n None = r
 
-  real_sorted : (x : Ranged) → Sorted Sort.Real (decoded_real x)
-  real_sorted (Ranged.InRange x) = real
-  real_sorted Ranged.OutOfRange = real
+  real_sorted : (x : Option Real) → Sorted (Some Sort.Real) (decoded_real x)
+  real_sorted (Some x) = real
+  real_sorted None = real
 
-  real_from_sorted : (n : Bool) (s : ℕ) → Sorted Sort.Real (real_from q n s)
+  real_from_sorted : (n : Bool) (s : ℕ) → Sorted (Some Sort.Real) (real_from q n s)
   unfolding real_from
   real_from_sorted n s =
       real_sorted (real_of n (digits_of q s) (exponent_of (exponent_below q (fraction_end q s)) (exponent_size q (fraction_end q s)) (fraction_end q s - fraction_from q s)))
 
-  number_sorted : (f : Form) (start end : ℕ) → Sorted (form_sort f) (number_literal octets-asked q f start end)
+  number_sorted : (f : Form) (start end : ℕ) → Sorted (Some (form_sort f)) (number_literal octets-asked q f start end)
   unfolding form_sort number_literal integer_of hex_literal_of real_literal_of
   number_sorted Form.Decimal start end = integer_sorted Sort.Integer (λ w. integer) integer (negative q start) (size_under 18446744073709551615 (magnitude Form.Decimal q start))
   number_sorted Form.Binary start end = integer_sorted Sort.Integer (λ w. integer) integer (negative q start) (size_under 18446744073709551615 (magnitude Form.Binary q start))
   number_sorted Form.Hex start end = go (octets-asked && eqb (signed q start) start)
     where
-      go : (t : Bool) → Sorted Sort.Hex (pick t (Is (Literal.Octets start end)) (integer_of q Form.Hex start))
+      go : (t : Bool) → Sorted (Some Sort.Hex) (pick t (Ok (Literal.Octets start end)) (integer_of q Form.Hex start))
       go true = octets
       go false = integer_sorted Sort.Hex (λ w. hex) hex (negative q start) (size_under 18446744073709551615 (magnitude Form.Hex q start))
   number_sorted Form.Real start end = real_from_sorted (negative q start) (signed q start)

@@ -1,20 +1,16 @@
 -- Integer literals (000 5.3.2, integer-literal; 01 "Query text"): from −(2^64−1) to 2^64−1, of any number of digits.
-use Rattle.std.specs.Prelude.{ℕ, ◌+◌, ◌-◌, ◌*◌, ◌/◌, List, Bool, true, false, eqb}
-use Rattle.base.specs.Pick.{pick}
+use Rattle.std.specs.Prelude.{ℕ, ◌+◌, ◌-◌, ◌*◌, ◌/◌, List, Bool, true, false, ℤ, pos, neg_ℤ, eqb, None, Option, Some, Err, Ok, Result}
 use Rattle.base.specs.Part.{byte_at}
 use Rattle.base.specs.Digit.{value_of, size_under}
-use Rattle.base.specs.declared.digit.Size.{Size}
-use Rattle.base.specs.declared.digit.Size.TheVariants.{Fits, TooLarge}
-use Rattle.base.specs.declared.integer.Whole.{Whole}
-use Rattle.base.specs.declared.integer.Whole.TheVariants.{Pos, NegSuc}
 use Rattle.scan.specs.Class.{run}
 use Rattle.scan.specs.declared.Class.TheVariants.{Digit}
 use Rattle.numeral.specs.Numeral.{signed}
 use Rattle.token.specs.declared.Form.{Form}
 use Rattle.token.specs.declared.Form.TheVariants.{Decimal, Binary, Hex, Real}
 use Rattle.literal.specs.declared.Literal.TheVariants as Literal
-use Rattle.literal.specs.declared.Decoded.{Decoded}
-use Rattle.literal.specs.declared.Decoded.TheVariants.{Is, OutOfRange}
+use Rattle.literal.specs.declared.LiteralFault.TheVariants.{OutOfRange}
+use Rattle.literal.specs.declared.Literal.{Literal}
+use Rattle.literal.specs.declared.LiteralFault.{LiteralFault}
 
 -- a minus sign at the start
 abbrev pub negative : List ℕ → ℕ → Bool
@@ -49,13 +45,13 @@ unfoldable pub magnitude : Form → List ℕ → ℕ → ℕ
 magnitude f q start = magnitude_from f q (signed q start + lead_of f)
 
 -- the number with its sign; −0 is 0
-unfoldable pub with_sign : Bool → ℕ → Whole
-with_sign true m = pick (eqb m 0) (Pos 0) (NegSuc (m - 1))
-with_sign false m = Pos m
+unfoldable pub with_sign : Bool → ℕ → ℤ
+with_sign true m = neg_ℤ (pos m)
+with_sign false m = pos m
 
-unfoldable pub integer_by : Bool → Size → Decoded
-integer_by n (Fits m) = Is (Literal.Integer (with_sign n m))
-integer_by n TooLarge = OutOfRange
+unfoldable pub integer_by : Bool → Option ℕ → Result Literal LiteralFault
+integer_by n (Some m) = Ok (Literal.Integer (with_sign n m))
+integer_by n None = Err OutOfRange
 
-unfoldable pub integer_of : List ℕ → Form → ℕ → Decoded
+unfoldable pub integer_of : List ℕ → Form → ℕ → Result Literal LiteralFault
 integer_of q f start = integer_by (negative q start) (size_under 18446744073709551615 (magnitude f q start))

@@ -1,11 +1,10 @@
 // Integer literals, of any number of digits.
 ghost use Rattle.std.specs.Prelude.{◌≡◌, ◌+◌, ◌-◌, ◌≤◌, ◌<◌, length};
-ghost use Rattle.literal.specs.Integer.{negative, base_of, lead_of, digit_count, with_sign, integer_by, integer_of};
+ghost use Rattle.literal.specs.Integer.{negative, base_of, lead_of, digit_count, with_sign, integer_of};
 
-use crate::{Decoded, Literal};
+use crate::{Literal, LiteralFault};
 use base::bytes::byte_at;
-use base::digit::{Size, read_value};
-use base::integer::Whole;
+use base::digit::read_value;
 use numeral::skip_sign;
 use scan::{Class, run_end};
 use token::Form;
@@ -16,28 +15,28 @@ pub(crate) fn is_negative(q: &[u8], start: usize) -> bool
     byte_at(q, start) == b'-'
 }
 
+#[tactic(auto, unfolding(crate::specs::Integer::base_of))]
 pub(crate) fn base_of(f: Form) -> u64
     ensures { (result ≡ base_of f) × (0 < result) }
 {
     match f {
-        Form::Decimal => 10,
         Form::Binary => 2,
         Form::Hex => 16,
-        Form::Real => 10,
+        _ => 10,
     }
 }
 
+#[tactic(auto, unfolding(crate::specs::Integer::lead_of))]
 pub(crate) fn lead_of(f: Form) -> usize
     ensures { (result ≡ lead_of f) × (result ≤ 2) }
 {
     match f {
-        Form::Decimal => 0,
-        Form::Binary => 0,
         Form::Hex => 2,
-        Form::Real => 0,
+        _ => 0,
     }
 }
 
+#[tactic(auto, unfolding(crate::specs::Integer::digit_count))]
 pub(crate) fn digit_count(f: Form, q: &[u8], p: usize) -> usize
     ensures { (result ≡ digit_count f q.now p) × (result ≤ length q.now - p) }
 {
@@ -49,34 +48,21 @@ pub(crate) fn digit_count(f: Form, q: &[u8], p: usize) -> usize
     }
 }
 
-pub(crate) fn with_sign(n: bool, m: u64) -> Whole
+#[tactic(auto, unfolding(crate::specs::Integer::with_sign))]
+pub(crate) fn with_sign(n: bool, m: u64) -> i128
     ensures { result ≡ with_sign n m }
 {
-    if n {
-        if m == 0 {
-            return Whole::Pos(0);
-        }
-        return Whole::NegSuc(m - 1);
-    }
-    Whole::Pos(m)
-}
-
-pub(crate) fn integer_by(n: bool, s: Size) -> Decoded
-    ensures { result ≡ integer_by n s }
-{
-    match s {
-        Size::Fits(m) => Decoded::Is(Literal::Integer(with_sign(n, m))),
-        Size::TooLarge => Decoded::OutOfRange,
-    }
+    if n { -i128::from(m) } else { i128::from(m) }
 }
 
 // The integer at a place, of any number of digits.
-pub fn integer_of(q: &[u8], f: Form, start: usize) -> Decoded
+#[tactic(auto, using(crate::proofs::Laws::integer_read, crate::proofs::Laws::integer_large))]
+pub fn integer_of(q: &[u8], f: Form, start: usize) -> Result<Literal, LiteralFault>
     requires { start ≤ length q.now }
     ensures { result ≡ integer_of q.now f start }
 {
     let p = skip_sign(q, start) + lead_of(f);
     let n = digit_count(f, q, p);
-    let m = read_value(base_of(f), 0, q, p, n, 0xffff_ffff_ffff_ffff);
-    integer_by(is_negative(q, start), m)
+    let m = read_value(base_of(f), 0, q, p, n, u64::MAX).ok_or(LiteralFault::OutOfRange)?;
+    Ok(Literal::Integer(with_sign(is_negative(q, start), m)))
 }

@@ -10,7 +10,6 @@ ghost use Rattle.literal.specs.Literal.{word_literal, hex_literal_of, number_lit
 
 use crate::integer::integer_of;
 use crate::real_literal::real_of;
-use base::integer::Whole;
 use numeral::skip_sign;
 use real::Real;
 use token::{Form, Reserved, Token, TokenKind};
@@ -19,75 +18,72 @@ use token::{Form, Reserved, Token, TokenKind};
 #[derive(Drop)]
 pub enum Literal {
     Truth(bool),
-    Integer(Whole),
+    Integer(i128),
     Real(Real),
     Text { start: usize, end: usize },
     Octets { start: usize, end: usize },
     Null,
 }
 
-#[derive(Drop)]
-pub enum Decoded {
-    Is(Literal),
+// Why a token stands for no literal.
+#[derive(Clone, Copy, PartialEq, Eq)]
+pub enum LiteralFault {
     OutOfRange,
     NoLiteral,
 }
 
-fn word_literal(w: Reserved) -> Decoded
+#[tactic(auto, unfolding(crate::specs::Literal::word_literal))]
+fn word_literal(w: Reserved) -> Result<Literal, LiteralFault>
     ensures { result ≡ word_literal w }
 {
     match w {
-        Reserved::And => Decoded::NoLiteral,
-        Reserved::Any => Decoded::NoLiteral,
-        Reserved::Every => Decoded::NoLiteral,
-        Reserved::False => Decoded::Is(Literal::Truth(false)),
-        Reserved::Like => Decoded::NoLiteral,
-        Reserved::Not => Decoded::NoLiteral,
-        Reserved::Null => Decoded::Is(Literal::Null),
-        Reserved::Or => Decoded::NoLiteral,
-        Reserved::True => Decoded::Is(Literal::Truth(true)),
+        Reserved::False => Ok(Literal::Truth(false)),
+        Reserved::Null => Ok(Literal::Null),
+        Reserved::True => Ok(Literal::Truth(true)),
+        _ => Err(LiteralFault::NoLiteral),
     }
 }
 
-fn hex_literal_of(octets: bool, q: &[u8], start: usize, end: usize) -> Decoded
+#[tactic(auto, unfolding(crate::specs::Literal::hex_literal_of))]
+fn hex_literal_of(octets: bool, q: &[u8], start: usize, end: usize) -> Result<Literal, LiteralFault>
     requires { start ≤ length q.now }
     ensures { result ≡ hex_literal_of octets q.now start end }
 {
-    let s = skip_sign(q, start);
-    if octets & (s == start) {
-        return Decoded::Is(Literal::Octets { start, end });
+    if octets & (skip_sign(q, start) == start) {
+        return Ok(Literal::Octets { start, end });
     }
     integer_of(q, Form::Hex, start)
 }
 
-fn number_literal(octets: bool, q: &[u8], f: Form, start: usize, end: usize) -> Decoded
+#[tactic(auto, unfolding(crate::specs::Literal::number_literal))]
+fn number_literal(
+    octets: bool,
+    q: &[u8],
+    f: Form,
+    start: usize,
+    end: usize,
+) -> Result<Literal, LiteralFault>
     requires { start ≤ length q.now }
     ensures { result ≡ number_literal octets q.now f start end }
 {
     match f {
-        Form::Decimal => integer_of(q, f, start),
-        Form::Binary => integer_of(q, f, start),
         Form::Hex => hex_literal_of(octets, q, start, end),
         Form::Real => real_of(q, start),
+        _ => integer_of(q, f, start),
     }
 }
 
 // The literal of a token; `octets` tells whether octets are asked for.
-pub fn literal_of(octets: bool, q: &[u8], t: Token) -> Decoded
+#[tactic(auto, unfolding(crate::specs::Literal::literal_of))]
+pub fn literal_of(octets: bool, q: &[u8], t: Token) -> Result<Literal, LiteralFault>
     requires { t.start ≤ length q.now }
     ensures { result ≡ literal_of octets q.now t }
 {
-    let kind = t.kind;
-    let start = t.start;
-    let end = t.end;
+    let Token { kind, start, end } = t;
     match kind {
-        TokenKind::End => Decoded::NoLiteral,
-        TokenKind::NoToken => Decoded::NoLiteral,
-        TokenKind::Name => Decoded::NoLiteral,
         TokenKind::Word(w) => word_literal(w),
         TokenKind::Number(f) => number_literal(octets, q, f, start, end),
-        TokenKind::Text => Decoded::Is(Literal::Text { start, end }),
-        TokenKind::Compare(_) => Decoded::NoLiteral,
-        TokenKind::Symbol(_) => Decoded::NoLiteral,
+        TokenKind::Text => Ok(Literal::Text { start, end }),
+        _ => Err(LiteralFault::NoLiteral),
     }
 }

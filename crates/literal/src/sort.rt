@@ -6,7 +6,7 @@ use numeral::skip_sign;
 use token::{Form, Reserved, Token, TokenKind};
 
 // Hex digits are an integer, and octets where they have no sign.
-#[derive(Drop)]
+#[derive(Clone, Copy, PartialEq, Eq)]
 pub enum Sort {
     Truth,
     Integer,
@@ -14,64 +14,51 @@ pub enum Sort {
     Real,
     Text,
     Null,
-    NoLiteral,
 }
 
-fn word_sort(w: Reserved) -> Sort
+#[tactic(auto, unfolding(crate::specs::Sort::word_sort))]
+fn word_sort(w: Reserved) -> Option<Sort>
     ensures { result ≡ word_sort w }
 {
     match w {
-        Reserved::And => Sort::NoLiteral,
-        Reserved::Any => Sort::NoLiteral,
-        Reserved::Every => Sort::NoLiteral,
-        Reserved::False => Sort::Truth,
-        Reserved::Like => Sort::NoLiteral,
-        Reserved::Not => Sort::NoLiteral,
-        Reserved::Null => Sort::Null,
-        Reserved::Or => Sort::NoLiteral,
-        Reserved::True => Sort::Truth,
+        Reserved::False => Some(Sort::Truth),
+        Reserved::Null => Some(Sort::Null),
+        Reserved::True => Some(Sort::Truth),
+        _ => None,
     }
 }
 
+#[tactic(auto, unfolding(crate::specs::Sort::form_sort))]
 fn form_sort(f: Form) -> Sort
     ensures { result ≡ form_sort f }
 {
     match f {
-        Form::Decimal => Sort::Integer,
-        Form::Binary => Sort::Integer,
         Form::Hex => Sort::Hex,
         Form::Real => Sort::Real,
+        _ => Sort::Integer,
     }
 }
 
-pub fn sort_of(k: TokenKind) -> Sort
+// None: no literal.
+#[tactic(auto, unfolding(crate::specs::Sort::sort_of))]
+pub fn sort_of(k: TokenKind) -> Option<Sort>
     ensures { result ≡ sort_of k }
 {
     match k {
-        TokenKind::End => Sort::NoLiteral,
-        TokenKind::NoToken => Sort::NoLiteral,
-        TokenKind::Name => Sort::NoLiteral,
         TokenKind::Word(w) => word_sort(w),
-        TokenKind::Number(f) => form_sort(f),
-        TokenKind::Text => Sort::Text,
-        TokenKind::Compare(_) => Sort::NoLiteral,
-        TokenKind::Symbol(_) => Sort::NoLiteral,
+        TokenKind::Number(f) => Some(form_sort(f)),
+        TokenKind::Text => Some(Sort::Text),
+        _ => None,
     }
 }
 
 // 01: "Unsigned hex is octets against type 8; signed hex there is 21".
+#[tactic(auto, unfolding(crate::specs::Sort::unsigned_hex))]
 pub fn is_unsigned_hex(q: &[u8], t: Token) -> bool
     ensures { result ≡ unsigned_hex q.now t }
 {
-    let kind = t.kind;
-    let start = t.start;
-    match sort_of(kind) {
-        Sort::Hex => skip_sign(q, start) == start,
-        Sort::Truth => false,
-        Sort::Integer => false,
-        Sort::Real => false,
-        Sort::Text => false,
-        Sort::Null => false,
-        Sort::NoLiteral => false,
+    match sort_of(t.kind) {
+        Some(Sort::Hex) => skip_sign(q, t.start) == t.start,
+        _ => false,
     }
 }

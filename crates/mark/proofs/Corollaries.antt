@@ -1,4 +1,5 @@
 -- What follows for a call of mark: the totals, each mark, the bytes beyond.
+use Rattle.std.specs.Prelude.{Err, Ok, Result}
 use Prim.Native.Nat.{ℕ, zero, suc, ◌≤◌, ◌<◌}
 use mathlib.Core.List.{List, [], ◌∷◌, ◌++◌, map}
 use mathlib.Core.Bool.{Bool, true, false}
@@ -10,42 +11,37 @@ use Rattle.base.specs.Pick.{pick}
 use Rattle.base.proofs.Lists.{beyond_kept}
 use Rattle.filter.specs.Check.{check}
 use Rattle.filter.specs.Evaluate.{evaluate}
-use Rattle.filter.specs.declared.refusal.Checked.{Checked}
-use Rattle.filter.specs.declared.refusal.Checked.TheVariants as checked
-use Rattle.filter.specs.declared.refusal.Answer.TheVariants.{Refused}
 use Rattle.mark.specs.declared.refusal.MarkRefusal.{MarkRefusal}
-use Rattle.mark.specs.declared.refusal.Marked.TheVariants as marked
 use Rattle.run.specs.declared.totals.Totals.{Totals}
-use Rattle.run.specs.declared.reading.RunReading.{RunReading}
-use Rattle.run.specs.declared.reading.RunReading.TheVariants.{Divides, Breaks}
 use Rattle.run.specs.Run.{run_reading, instances_of}
 use Rattle.run.specs.Totals.{mark_of, answers_of, marks_of, totals_of}
 use Rattle.mark.specs.Mark.{mark_read, mark_checked, mark, marks_by, marks_after}
 use Rattle.run.proofs.Counting.{sum}
 use Rattle.run.proofs.Corollaries.{answers_length, marks_length, totals_sum}
+use Rattle.filter.specs.declared.refusal.Refusal.{Refusal}
 
 -- a good call returns the totals of its instances' answers
-not_totals : (r : MarkRefusal) (x : Totals) → marked.Refused r ≡ marked.Totals x → ⊥
+not_totals : (r : MarkRefusal) (x : Totals) → Err r ≡ Ok x → ⊥
 not_totals r x e = let z : ◌≡◌ {A = ℕ} 0 1 = cc in omega arith
 
 module _ (q t run : List ℕ) (size : ℕ) (x : Totals) where
-  good_size : (b : Bool) (r : MarkRefusal) → pick b (marked.Refused r) (marked.Totals (totals_of (answers_of q t run))) ≡ marked.Totals x → x ≡ totals_of (answers_of q t run)
+  good_size : (b : Bool) (r : MarkRefusal) → pick b (Err r) (Ok (totals_of (answers_of q t run))) ≡ Ok x → x ≡ totals_of (answers_of q t run)
   good_size true r e = absurd (not_totals r x e)
   good_size false r e = cc
 
-  good_read : (v : RunReading) → mark_read q t run size v ≡ marked.Totals x → x ≡ totals_of (answers_of q t run)
-  good_read (Breaks p) e = absurd (not_totals _ x e)
-  good_read (Divides n) e = good_size (ltb size n) _ e
+  good_read : (v : Result ℕ ℕ) → mark_read q t run size v ≡ Ok x → x ≡ totals_of (answers_of q t run)
+  good_read (Err p) e = absurd (not_totals _ x e)
+  good_read (Ok n) e = good_size (ltb size n) _ e
 
-  good_checked : (c : Checked) → mark_checked q t run size c ≡ marked.Totals x → x ≡ totals_of (answers_of q t run)
-  good_checked (checked.Refused r) e = absurd (not_totals _ x e)
-  good_checked checked.Accepted e = good_read (run_reading run) e
+  good_checked : (c : Result (Unit {0}) Refusal) → mark_checked q t run size c ≡ Ok x → x ≡ totals_of (answers_of q t run)
+  good_checked (Err r) e = absurd (not_totals _ x e)
+  good_checked (Ok tt) e = good_read (run_reading run) e
 
-  pub good_totals : mark q t run size ≡ marked.Totals x → x ≡ totals_of (answers_of q t run)
+  pub good_totals : mark q t run size ≡ Ok x → x ≡ totals_of (answers_of q t run)
   unfolding mark
   good_totals e = good_checked (check q t) e
 
-  pub good_sum : mark q t run size ≡ marked.Totals x → sum x ≡ length (instances_of run)
+  pub good_sum : mark q t run size ≡ Ok x → sum x ≡ length (instances_of run)
   good_sum e = ap sum (good_totals e) ∙ totals_sum q t run
 
 -- ---- the marks
@@ -56,11 +52,11 @@ mapped_at f (x ∷ l) (suc i) d e h = mapped_at f l i d e (omega arith)
 
 module _ (q t run m : List ℕ) where
   -- a refused call leaves every byte
-  pub refused_leaves : (r : MarkRefusal) → mark q t run (length m) ≡ marked.Refused r → marks_after q t run m ≡ m
+  pub refused_leaves : (r : MarkRefusal) → mark q t run (length m) ≡ Err r → marks_after q t run m ≡ m
   unfolding marks_after
   refused_leaves r e = ap (marks_by q t run m) e
 
-  module _ (x : Totals) (good : mark q t run (length m) ≡ marked.Totals x) where
+  module _ (x : Totals) (good : mark q t run (length m) ≡ Ok x) where
     pub after : marks_after q t run m ≡ marks_of q t run ++ drop (length (instances_of run)) m
     unfolding marks_after
     after = ap (marks_by q t run m) good

@@ -1,4 +1,5 @@
 -- The loop that marks: what it has written and counted, and what is left. One law for each of its exits.
+use Rattle.std.specs.Prelude.{Result}
 use Prim.Native.Nat.{ℕ, ◌+◌, ◌≤◌, ◌<◌}
 use mathlib.Core.List.{List, [], ◌∷◌, ◌++◌, map}
 use mathlib.Core.Path.{◌≡◌, refl, sym, ap, ◌∙◌}
@@ -8,20 +9,18 @@ use native.Mathlib.Omega.{arith}
 use lib.ListN.{length, set, drop, length-set, length-map}
 use lib.Seq.{sets, sets-eq}
 use Rattle.base.specs.Part.{part}
-use Rattle.record.specs.Record.{record_at, records}
-use Rattle.record.specs.declared.read.RecordAt.{RecordAt}
-use Rattle.record.specs.declared.read.RecordAt.TheVariants.{Whole, Broken, End}
-use Rattle.record.proofs.Records.{records_whole, records_broken, records_end}
+use Rattle.record.specs.Record.{Records, item, broken, ended, records}
 use Rattle.filter.specs.Evaluate.{evaluate}
 use Rattle.filter.specs.declared.refusal.Answer.{Answer}
 use Rattle.run.specs.declared.totals.Totals.{Totals}
 use Rattle.run.specs.Run.{bodies_of, instances_of}
 use Rattle.run.specs.Totals.{mark_of, answers_of, marks_of, totals_of, counted}
 use Rattle.run.proofs.Counting.{totals, sum, plus, plus_next, plus_none, none_plus, sum_next}
+use Rattle.filter.specs.declared.refusal.Refusal.{Refusal}
 
 -- ---- the bodies of all instances and of those that are left, the marks as they were and as they are
 module _ (q t : List ℕ) where
-  abbrev answers_in : List (List ℕ) → List Answer
+  abbrev answers_in : List (List ℕ) → List (Result Answer Refusal)
   answers_in l = map (evaluate q t) l
 
   abbrev marks_in : List (List ℕ) → List ℕ
@@ -72,43 +71,44 @@ module _ (q t : List ℕ) (all : List (List ℕ)) (old : List ℕ) where
         w.same,
       )
 
--- ---- as the code meets them
+-- ---- as the code meets them, with the records that are left
 module _ (q t s m : List ℕ) where
-  pub marking_begins : length (instances_of s) ≤ length m → Marking q t (instances_of s) (bodies_of s (records s 0)) m 0 (totals 0 0 0) m
+  pub marking_begins : length (instances_of s) ≤ length m → {rs : Records} → rs ≡ records s 0 → {i : ℕ} → i ≡ 0 → Marking q t (instances_of s) (bodies_of s rs) m i (totals 0 0 0) m
   unfolding instances_of
-  marking_begins h = begin q t (instances_of s) m h
+  marking_begins h e f = rw (e, f) (begin q t (instances_of s) m h)
 
-module _ (q t s old : List ℕ) (at i : ℕ) (x : Totals) (m : List ℕ) (w : Marking q t (instances_of s) (bodies_of s (records s at)) old i x m) where
+module _ (q t s old : List ℕ) (rs : Records) (i : ℕ) (x : Totals) (m : List ℕ) (w : Marking q t (instances_of s) (bodies_of s rs) old i x m) where
   pub marking_same : length m ≡ length old
   marking_same = w.same
 
-  module _ {r : RecordAt} (e : r ≡ record_at s at) where
-    abbrev Done : Type 0
-    Done = (x ≡ totals_of (answers_of q t s)) × (m ≡ marks_of q t s ++ drop (length (instances_of s)) old) × (length m ≡ length old)
+  abbrev Done : Type 0
+  Done = (x ≡ totals_of (answers_of q t s)) × (m ≡ marks_of q t s ++ drop (length (instances_of s)) old) × (length m ≡ length old)
 
-    done : bodies_of s (records s at) ≡ [] → Done
-    done f = finish q t (instances_of s) old i x m (rw f at w)
+  done : bodies_of s rs ≡ [] → Done
+  done f = finish q t (instances_of s) old i x m (rw f at w)
 
-    pub marking_broken : r ≡ Broken → Done
+  pub marking_broken : (place : ℕ) → rs ≡ broken place → Done
+  unfolding bodies_of
+  marking_broken place f = done (rw f refl)
+
+  pub marking_end : rs ≡ ended → Done
+  unfolding bodies_of
+  marking_end f = done (rw f refl)
+
+  module _ (place kind start len : ℕ) (rest : Records) (f : rs ≡ item place kind start len rest) where
+    left : bodies_of s rs ≡ part s start len ∷ bodies_of s rest
     unfolding bodies_of
-    marking_broken f = done (rw (records_broken s at (sym e ∙ f)))
+    left = rw f
 
-    pub marking_end : r ≡ End → Done
-    unfolding bodies_of
-    marking_end f = done (rw (records_end s at (sym e ∙ f)))
+    room : i < length m
+    room = let l = ap length left in omega (arith, w.room)
 
-    module _ {kind start len next : ℕ} (f : r ≡ Whole kind start len next) where
-      left : bodies_of s (records s at) ≡ part s start len ∷ bodies_of s (records s next)
-      unfolding bodies_of
-      left = rw (records_whole s at kind start len next (sym e ∙ f))
+    pub marking_room : {here : ℕ} → here ≡ i → here < length m
+    marking_room e = rw e room
 
-      pub marking_room : i < length m
-      marking_room = let l = ap length left in omega (arith, w.room)
+    pub marking_few : sum x < length m
+    marking_few = omega (arith, w.sums, room)
 
-      pub marking_few : sum x < length m
-      marking_few = omega (arith, w.sums, marking_room)
-
-      pub marking_next : {b : List ℕ} → b ≡ part s start len → {a : Answer} → a ≡ evaluate q t b → {v : ℕ} → v ≡ mark_of a → {u : Totals} → u ≡ counted x a
-          → Marking q t (instances_of s) (bodies_of s (records s next)) old (i + 1) u (set m i v)
-      marking_next eb ea ev eu =
-          rw (eu, ev, ea, eb) (next_one q t (instances_of s) (bodies_of s (records s next)) old i x m (part s start len) (rw left at w))
+    pub marking_next : {b : List ℕ} → b ≡ part s start len → {a : Result Answer Refusal} → a ≡ evaluate q t b → {v : ℕ} → v ≡ mark_of a → {u : Totals} → u ≡ counted x a
+        → {here further : ℕ} → here ≡ i → further ≡ i + 1 → Marking q t (instances_of s) (bodies_of s rest) old further u (set m here v)
+    marking_next eb ea ev eu eh ef = rw (ef, eh, eu, ev, ea, eb) (next_one q t (instances_of s) (bodies_of s rest) old i x m (part s start len) (rw left at w))

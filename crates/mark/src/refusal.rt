@@ -2,9 +2,8 @@
 ghost use Rattle.std.specs.Prelude.{◌≡◌};
 ghost use Rattle.mark.specs.Mark.{number_of};
 
-use filter::refusal::Cause;
+use filter::refusal::{Cause, Refusal};
 use run::fault::RunFault;
-use run::totals::Totals;
 
 #[derive(Drop)]
 pub enum MarkCause {
@@ -18,10 +17,18 @@ pub struct MarkRefusal {
     pub place: usize,
 }
 
-#[derive(Drop)]
-pub enum Marked {
-    Totals(Totals),
-    Refused(MarkRefusal),
+// The check's, with its cause and place.
+impl From<Refusal> for MarkRefusal {
+    ghost use Rattle.mark.specs.declared.refusal.MarkCause.{MarkCause};
+
+    ghost from_gives = { λ r m. m ≡ record { cause = MarkCause.Call r.cause; place = r.place } };
+
+    fn from(r: Refusal) -> MarkRefusal {
+        MarkRefusal {
+            cause: MarkCause::Call(r.cause),
+            place: r.place,
+        }
+    }
 }
 
 // 01's number of a cause.

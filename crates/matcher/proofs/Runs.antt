@@ -15,7 +15,6 @@ use Rattle.base.specs.Pick.{pick}
 use Rattle.base.proofs.Bits.{bit_and_law, bit_zero}
 use Rattle.pattern.specs.declared.fragment.Fragment.{Fragment}
 use Rattle.pattern.specs.Automaton.{kept_if, automaton_of}
-use Rattle.pattern.specs.Links.{leads}
 use Rattle.pattern.specs.Regex.{Regex, empty, sym, seq, alt, opt, plus}
 use Rattle.pattern.proofs.Below.{any_none, any_true}
 use Rattle.pattern.proofs.Linking.{least_in}

@@ -1,7 +1,8 @@
 -- One law for each way out of the matcher, and for a step of its loop. Assumes nothing.
 use mathlib.Core.Path.{◌≡◌, refl, ap, subst, sym as inv, ◌∙◌}
 use mathlib.Core.List.{List, [], ◌∷◌}
-use mathlib.Core.Option.{Option, none, some}
+use mathlib.Core.Option.{Option as Parsed, none, some}
+use Rattle.std.specs.Prelude.{Option, Some, None}
 use mathlib.Core.Bool.{Bool, false, not, ◌&&◌, ◌||◌, or-false}
 use Prim.Native.Nat.{ℕ, ◌≤◌, ◌+◌}
 use native.Mathlib.Omega.{arith}
@@ -16,8 +17,6 @@ use Rattle.encoding.specs.Scalar.{scalar_at}
 use Rattle.encoding.specs.Characters.{characters_from, characters}
 use Rattle.encoding.proofs.Characters.{characters_next, characters_stop, characters_end, characters_fewer}
 use Rattle.pattern.specs.declared.fragment.Fragment.{Fragment}
-use Rattle.pattern.specs.declared.reader.PatternRead.{PatternRead}
-use Rattle.pattern.specs.declared.reader.PatternRead.TheVariants.{BadPattern, Pattern}
 use Rattle.pattern.specs.Regex.{Regex}
 use Rattle.pattern.specs.Reading.{parse}
 use Rattle.pattern.specs.Automaton.{automaton_of}
@@ -29,6 +28,8 @@ use Rattle.pattern.proofs.Listed.{Stands, pattern_lists}
 use Rattle.pattern.proofs.Parts.{no_pattern, is_pattern}
 use Rattle.matcher.specs.declared.live.Live.{Live}
 use Rattle.matcher.specs.declared.matcher.Matched.{Matched}
+use Rattle.matcher.specs.declared.recent.Recent.{Recent}
+use Rattle.matcher.specs.declared.remembered.Memory.{Memory}
 use Rattle.matcher.specs.Live.{initial, accepted, next_set, Kept, Steps}
 use Rattle.matcher.specs.Matcher.{like_of, match_of, Linked}
 use Rattle.matcher.specs.Recent.{Recalls}
@@ -45,8 +46,8 @@ start_kept links e = subst (Kept links) (inv e) (record { from_set = λ z. absur
 -- ---- the pattern
 
 -- the links that a reading leaves where there were none before are the pattern's
-module _ (p : List ℕ) {links : List ℕ} {r : PatternRead} (read : GivesPattern (replicate 64 0) links r (parse p)) where
-  pub linked : {whole : Fragment} → r ≡ Pattern whole → Linked (parse p) whole links
+module _ (p : List ℕ) {links : List ℕ} {r : Option Fragment} (read : GivesPattern (replicate 64 0) links r (parse p)) where
+  pub linked : {whole : Fragment} → r ≡ Some whole → Linked (parse p) whole links
   linked {whole} q =
       let x = is_pattern (replicate 64 0) links r (parse p) whole read q in
       record {
@@ -57,16 +58,16 @@ module _ (p : List ℕ) {links : List ℕ} {r : PatternRead} (read : GivesPatter
         all = x.links.all;
       }
 
-  unlinked : r ≡ BadPattern → parse p ≡ none
+  unlinked : r ≡ None → parse p ≡ none
   unlinked q = no_pattern (replicate 64 0) links r (parse p) read q
 
-  pub match_none : r ≡ BadPattern → (s : List ℕ) {n : ℕ} → n ≡ length (characters_from s 0) → ◌≡◌ {A = Matched} (record { holds = false; characters = n }) (match_of p s)
+  pub match_none : r ≡ None → (s : List ℕ) {n : ℕ} → n ≡ length (characters_from s 0) → ◌≡◌ {A = Matched} (record { holds = false; characters = n }) (match_of p s)
   match_none q s e = rw (unlinked q, e)
 
-  pub one_none : r ≡ BadPattern → (c : ℕ) → false ≡ like_of (parse p) (c ∷ [])
+  pub one_none : r ≡ None → (c : ℕ) → false ≡ like_of (parse p) (c ∷ [])
   one_none q c = rw (unlinked q)
 
-numbered : (X : Option (Regex ℕ)) (r : Regex ℕ) → X ≡ some r → NumberedPattern X → (m : ℕ) × Numbered r 0 m
+numbered : (X : Parsed (Regex ℕ)) (r : Regex ℕ) → X ≡ some r → NumberedPattern X → (m : ℕ) × Numbered r 0 m
 numbered X r e (a_pattern {r = q} m n) = let z : q ≡ r = cc in (m, subst (λ (x : Regex ℕ). Numbered x 0 m) z n)
 numbered X r e unnumbered = absurd (let z : ◌≡◌ {A = ℕ} 0 1 = cc in omega arith)
 
@@ -95,7 +96,7 @@ module _ (p : List ℕ) (whole : Fragment) (links : List ℕ) (tables : Linked (
   stands c hit h = let x = pattern_lists p tables.regex tables.is in x.stands (bit hit) c (λ i l. h x.symbols x.lists i l)
 
   liked : (w : List ℕ) → likes tables.regex w ≡ like_of (parse p) w
-  liked w = ap (λ (X : Option (Regex ℕ)). like_of X w) (inv tables.is)
+  liked w = ap (λ (X : Parsed (Regex ℕ)). like_of X w) (inv tables.is)
 
   stepped : (st : Live) (c hit : ℕ) (w : List ℕ) → Ready tables.regex st → Hits p c hit
       → rest_of tables.regex st (c ∷ w) ≡ run (with_live (bit (next_set st hit)) tables.regex) w
@@ -193,23 +194,23 @@ module _ (p : List ℕ) (whole : Fragment) (links : List ℕ) (tables : Linked (
 
 -- ---- the loop, with its tables and its memory
 
-pub record Matching (p : List ℕ) (whole : Fragment) (links s words recent : List ℕ) (st : Live) (at count : ℕ) : Type 0 where
+pub record Matching (p : List ℕ) (whole : Fragment) (links s : List ℕ) (words : Memory) (recent : Recent) (st : Live) (at count : ℕ) : Type 0 where
   pub tables : Linked (parse p) whole links
   pub reached : Reached p whole links tables s st at count
   pub memory : Remembers p words
   pub recalls : Recalls links recent
 
-pub matching_start : (p : List ℕ) (whole : Fragment) (links s words recent : List ℕ) {st : Live} → Linked (parse p) whole links × Remembers p words × Recalls links recent
+pub matching_start : (p : List ℕ) (whole : Fragment) (links s : List ℕ) (words : Memory) (recent : Recent) {st : Live} → Linked (parse p) whole links × Remembers p words × Recalls links recent
     → st ≡ initial whole.first → Matching p whole links s words recent st 0 0
 matching_start p whole links s words recent t e = record { tables = t.0; reached = reached_start p whole links t.0 s e; memory = t.1; recalls = t.2 }
 
-module _ {p : List ℕ} {whole : Fragment} {links s words recent : List ℕ} {st : Live} {at count : ℕ} (here : Matching p whole links s words recent st at count) where
+module _ {p : List ℕ} {whole : Fragment} {links s : List ℕ} {words : Memory} {recent : Recent} {st : Live} {at count : ℕ} (here : Matching p whole links s words recent st at count) where
   -- no more characters are counted than there are bytes
   pub matching_fewer : {r : ℕ} → r ≡ length (characters_from s at) → count + r ≤ length s
   matching_fewer e = omega (arith, here.reached.counted, characters_fewer s 0, e)
 
-  module _ (n hit : ℕ) (h : n ≡ sequence_at s at) (z : n ≡ 0 → ⊥) {more : List ℕ} (hits : Hits p (scalar_at s at) hit × Remembers p more) {set : ℕ} (is : set ≡ next_set st hit) where
-    pub matching_next : {next : Live} {later : List ℕ} → (set ≡ 0 → ⊥) → Steps links set next × Recalls links later
+  module _ (n hit : ℕ) (h : n ≡ sequence_at s at) (z : n ≡ 0 → ⊥) {more : Memory} (hits : Hits p (scalar_at s at) hit × Remembers p more) {set : ℕ} (is : set ≡ next_set st hit) where
+    pub matching_next : {next : Live} {later : Recent} → (set ≡ 0 → ⊥) → Steps links set next × Recalls links later
         → Matching p whole links s more later next (at + n) (count + 1)
     matching_next live k = record {
       tables = here.tables;

@@ -1,11 +1,11 @@
 // The pattern's live symbols: the state goes in by value, and a step hands back the next one.
-ghost use Rattle.std.specs.Prelude.{◌≡◌, length};
+ghost use Rattle.std.specs.Prelude.{◌≡◌};
 ghost use Rattle.matcher.specs.Live.{initial, next_set, accepted, Kept, Steps};
 ghost use Rattle.matcher.specs.Recent.{Recalls};
 
-use crate::recent::{CLOSED, PLACES, SIMPLE, recent_place};
+use crate::recent::{PLACES, Recent};
 use pattern::fragment::Fragment;
-use pattern::links::gather;
+use pattern::links::{LINKS, gather};
 
 #[derive(Clone, Copy)]
 pub struct Live {
@@ -34,25 +34,25 @@ impl Live {
     }
 
     // After a character with which the symbols of `set` are live.
-    pub fn step(self, links: &[u64], recent: &mut [u64], set: u64) -> Live
-        requires { (length links.now ≡ 64) × Recalls links.now recent.old × Kept links.now self }
+    #[tactic(auto, using(crate::proofs::Recalled::stays, crate::proofs::Recalled::recalled, crate::proofs::Recalled::gathered, crate::proofs::Recalled::recalls_more))]
+    pub fn step(self, links: &[u64; LINKS], recent: &mut Recent, set: u64) -> Live
+        requires { Recalls links.now recent.old × Kept links.now self }
         ensures { Steps links.now set result × Recalls links.now recent.new }
     {
         if set == self.set {
             return self;
         }
-        let place = self.place;
-        let k = recent_place(recent, set);
-        if k < PLACES {
+        if let Some(k) = recent.place_of(set) {
             return Live {
                 set,
-                onward: recent[PLACES + k],
-                place,
+                onward: recent.onward[k],
+                ..self
             };
         }
-        let onward = gather(links, recent[SIMPLE], recent[CLOSED], set);
-        recent[place] = set;
-        recent[PLACES + place] = onward;
+        let place = self.place;
+        let onward = gather(links, recent.simple, recent.closed, set);
+        recent.sets[place] = set;
+        recent.onward[place] = onward;
         Live {
             set,
             onward,

@@ -1,52 +1,56 @@
 // The sets of live symbols that were gathered last, and what may come after each: a text mostly goes round in a few sets.
-ghost use Rattle.std.specs.Prelude.{◌≡◌, ◌<◌, length, get_or};
+ghost use Rattle.std.specs.Prelude.{◌≡◌, ◌<◌, get_or, IfSome};
 ghost use Rattle.matcher.specs.Recent.{Recalls};
 
-use pattern::links::{closed_in, simple_in};
+use pattern::links::{LINKS, closed_in, simple_in};
 
 // With more places more sets would be found, and one that isn't would take longer.
 pub(crate) const PLACES: usize = 4;
-
-// The simple and the closed symbols stand behind the places, and not in locals, of which the matcher's loop has enough.
-pub(crate) const SIMPLE: usize = 8;
-
-pub(crate) const CLOSED: usize = 9;
-
-// A place has two words: a set, and PLACES further on what may come after it.
-pub(crate) const RECENT: usize = 10;
 
 // In shorter texts there is less to gather than to find the simple symbols, and the closed ones.
 const LONG: usize = 256;
 
 const LONGER: usize = 4096;
 
-// For a text of n bytes.
-pub(crate) fn prepare(links: &[u64], n: usize, recent: &mut [u64])
-    requires { (length links.now ≡ 64) × Recalls links.now recent.old }
-    ensures { Recalls links.now recent.new }
-{
-    if n < LONG {
-        return;
-    }
-    let simple = simple_in(links);
-    recent[SIMPLE] = simple;
-    if n < LONGER {
-        return;
-    }
-    recent[CLOSED] = closed_in(links, simple);
+#[derive(Drop)]
+pub struct Recent {
+    pub(crate) sets: [u64; PLACES],
+    pub(crate) onward: [u64; PLACES], // what may come after each set
+    pub(crate) simple: u64, // symbols by which less is to be gathered; here and not in locals, of which the matcher's loop has enough
+    pub(crate) closed: u64,
 }
 
-// The place of a set; PLACES if it has none.
-pub(crate) fn recent_place(recent: &[u64], set: u64) -> usize
-    requires { length recent.now ≡ 10 }
-    ensures { result < 4 → get_or recent.now result 0 ≡ set }
-{
-    let mut i = 0;
-    while i < PLACES {
-        if recent[i] == set {
-            return i;
+impl Recent {
+    // For a text of n bytes.
+    pub(crate) fn new(links: &[u64; LINKS], n: usize) -> Recent
+        ensures { Recalls links.now result }
+    {
+        let mut recent = Recent {
+            sets: [0; PLACES],
+            onward: [0; PLACES],
+            simple: 0,
+            closed: 0,
+        };
+        if n < LONG {
+            return recent;
         }
-        i += 1;
+        recent.simple = simple_in(links);
+        if n < LONGER {
+            return recent;
+        }
+        recent.closed = closed_in(links, recent.simple);
+        recent
     }
-    PLACES
+
+    // Where a set is.
+    pub(crate) fn place_of(&self, set: u64) -> Option<usize>
+        ensures { IfSome result (λ k. (k < 4) × (get_or self.now.sets k 0 ≡ set)) }
+    {
+        for k in 0..PLACES {
+            if self.sets[k] == set {
+                return Some(k);
+            }
+        }
+        None
+    }
 }

@@ -41,7 +41,7 @@ module _ (q : List ℕ) where
   unfolding decimal_literal
   decimal_ends at = moved_ends n (signed_ends at) (unsigned_ends (signed q at))
 
-  binary_body_ends : (at : ℕ) → Ends n at (binary_body q at)
+  pub binary_body_ends : (at : ℕ) → Ends n at (binary_body q at)
   unfolding binary_body
   binary_body_ends at =
       chosen n (ltb at (run (Digit 2) q at))
@@ -54,11 +54,11 @@ module _ (q : List ℕ) where
   unfolding binary_literal
   binary_ends at = moved_ends n (signed_ends at) (binary_body_ends (signed q at))
 
-  pairs_end : (at : ℕ) → Ends n at (hex_pairs q at)
+  pub pairs_end : (at : ℕ) → Ends n at (hex_pairs q at)
   unfolding hex_pairs
   pairs_end at = record { from = omega arith; reach = omega (arith, run_reach (Digit 16) q at) }
 
-  hex_body_ends : (at : ℕ) → Ends n at (hex_body q at)
+  pub hex_body_ends : (at : ℕ) → Ends n at (hex_body q at)
   unfolding hex_body
   hex_body_ends at =
       chosen n (eqb (byte_at q at) 48)
@@ -85,14 +85,14 @@ module _ (q : List ℕ) where
       past : eqb (byte_at q (unsigned_integer q at)) 46 ≡ true → Ends n at (unsigned_integer q at + 1)
       past t = on n (unsigned_ends at) (after_byte (unsigned_integer q at) 46 (omega arith) t)
 
-  exponent_ends : (at : ℕ) → Ends n at (exponent_part q at)
+  pub exponent_ends : (at : ℕ) → Ends n at (exponent_part q at)
   unfolding exponent_part
   exponent_ends at =
       chosen n (one_of 69 101 (byte_at q at))
       (λ t. moved_ends n (after_either at 69 101 (omega arith) (omega arith) t) (decimal_ends (at + 1)))
       (λ t. stays n at)
 
-  real_body_ends : (at : ℕ) → Ends n at (real_body q at)
+  pub real_body_ends : (at : ℕ) → Ends n at (real_body q at)
   unfolding real_body
   real_body_ends at = chosen n (ltb at (exact_numeric q at)) (λ t. on n (exact_ends at) (exponent_ends (exact_numeric q at))) (λ t. stays n at)
 

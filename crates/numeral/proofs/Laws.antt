@@ -1,16 +1,14 @@
 -- Laws of the number rules.
-use Prim.Native.Nat.{ℕ, ◌-◌, ◌≤◌, ◌<◌}
+use Prim.Native.Nat.{ℕ, ◌<◌}
 use mathlib.Core.Path.{◌≡◌, refl, sym, ◌∙◌}
 use mathlib.Core.List.{List}
 use mathlib.Core.Bool.{Bool, true, false}
 use native.Mathlib.Omega.{arith}
 use lib.ListN.{length}
-use lib.Dec.{ltb}
 use borrow.Author.Tests.{ne_eqb}
-use Rattle.base.specs.Pick.{pick}
 use Rattle.base.specs.Part.{byte_at}
 use Rattle.base.proofs.Lists.{byte_within}
-use Rattle.numeral.specs.Numeral.{one_of, moved}
+use Rattle.numeral.specs.Numeral.{one_of}
 
 -- one of two bytes that are not 0 stands within the text
 pub one_of_within : {t : Bool} {b : ℕ} (q : List ℕ) (at a c : ℕ) → b ≡ byte_at q at → t ≡ one_of a c b → t ≡ true → 0 < a → 0 < c → at < length q
@@ -25,14 +23,6 @@ one_of_within {t} {b} q at a c e f g ha hc = byte_within q at (λ z. no (e ∙ z
       where
         clash : {k : ℕ} → 0 < k → 0 ≡ k → ⊥
         clash l w = omega arith
-
--- a rule from `at` over `s` to `e`: what stays within `n` at each step does on the whole
-pub moved_bounds : {r : ℕ} (at s e n : ℕ) → r ≡ moved at s e → at ≤ s → s - at ≤ n - at → s ≤ e → e - s ≤ n - s → (at ≤ r) × (r - at ≤ n - at)
-moved_bounds at s e n h a b c d = rw h (go (ltb s e))
-  where
-    go : (t : Bool) → (at ≤ pick t e at) × (pick t e at - at ≤ n - at)
-    go true = (omega arith, omega arith)
-    go false = (omega arith, omega arith)
 
 pub at_byte : {b : ℕ} (q : List ℕ) (at k : ℕ) → b ≡ byte_at q at → b ≡ k → 0 < k → at < length q
 at_byte q at k e f h = byte_within q at (λ z. let y : k ≡ 0 = sym f ∙ e ∙ z in omega arith)

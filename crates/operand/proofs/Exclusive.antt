@@ -1,4 +1,5 @@
 -- Beside one family the literals that fit go wrong in one way at most: those of a datetime are never out of range, and those of no other are malformed.
+use Rattle.std.specs.Prelude.{None, Option, Some, Err, Ok, Result}
 use Prim.Native.Nat.{ℕ}
 use mathlib.Core.List.{List}
 use mathlib.Core.Logic.{◌⊎◌, inl, inr}
@@ -17,11 +18,11 @@ use Rattle.literal.specs.Sort.{sort_of, unsigned_hex}
 use Rattle.literal.specs.declared.sort.Sort.{Sort}
 use Rattle.literal.specs.declared.Literal.{Literal}
 use Rattle.literal.specs.declared.Literal.TheVariants as literal
-use Rattle.literal.specs.declared.Decoded.{Decoded}
-use Rattle.literal.specs.declared.Decoded.TheVariants.{Is, OutOfRange, NoLiteral}
+use Rattle.literal.specs.declared.LiteralFault.TheVariants.{OutOfRange, NoLiteral}
 use Rattle.literal.proofs.Sorts.{Sorted, Ranging, integer, hex, real, sort_right}
 use Rattle.value_literal.specs.LiteralValue.{text_value, literal_value}
 use Rattle.operand.specs.LiteralReading.{LiteralReading, misfit, out_of_range, malformed, reads, fits, no_datetime, read_decoded, read_fitting, read_literal}
+use Rattle.literal.specs.declared.LiteralFault.{LiteralFault}
 
 -- a property of what is read where nothing fits and of what is decoded is one of what is read
 module _ (P : LiteralReading → Type 0) (f : Family) (q : List ℕ) (t : Token) (not-fitting : P misfit) where
@@ -44,17 +45,18 @@ WellFormed malformed = ⊥
 WellFormed (reads v) = Unit
 
 -- no number fits a datetime
-fits_no_number : (u : Bool) (s : Sort) → fits Datetime u s ≡ true → Ranging s → ⊥
+fits_no_number : (u : Bool) (s : Sort) → fits Datetime u (Some s) ≡ true → Ranging s → ⊥
 unfolding fits
 fits_no_number u s h integer = false≢true h
 fits_no_number u s h hex = false≢true h
 fits_no_number u s h real = false≢true h
 
-datetime_in_range : (q : List ℕ) (u : Bool) (s : Sort) (d : Decoded) → fits Datetime u s ≡ true → Sorted s d → InRange (read_decoded Datetime q d)
-datetime_in_range q u s (Is l) h o =
+datetime_in_range : (q : List ℕ) (u : Bool) (s : Option Sort) (d : Result Literal LiteralFault) → fits Datetime u s ≡ true → Sorted s d → InRange (read_decoded Datetime q d)
+datetime_in_range q u s (Ok l) h o =
     both_ways InRange (no_datetime (literal_value Datetime q l)) malformed (reads (literal_value Datetime q l)) (λ e. tt) (λ e. tt)
-datetime_in_range q u s OutOfRange h o = fits_no_number u s h o
-datetime_in_range q u s NoLiteral h o = tt
+datetime_in_range q u (Some s) (Err OutOfRange) h o = fits_no_number u s h o
+datetime_in_range q u None (Err OutOfRange) h o = o
+datetime_in_range q u s (Err NoLiteral) h o = tt
 
 -- the literals of a family whose texts are no datetimes
 module _ (f : Family) (others : (cs : List ℕ) → no_datetime (some (text_value f cs)) ≡ false) (q : List ℕ) where
@@ -67,10 +69,10 @@ module _ (f : Family) (others : (cs : List ℕ) → no_datetime (some (text_valu
   no_datetime_law (literal.Octets start end) = refl
   no_datetime_law literal.Null = refl
 
-  decoded_well_formed : (d : Decoded) → WellFormed (read_decoded f q d)
-  decoded_well_formed (Is l) = rw (no_datetime_law l) tt
-  decoded_well_formed OutOfRange = tt
-  decoded_well_formed NoLiteral = tt
+  decoded_well_formed : (d : Result Literal LiteralFault) → WellFormed (read_decoded f q d)
+  decoded_well_formed (Ok l) = rw (no_datetime_law l) tt
+  decoded_well_formed (Err OutOfRange) = tt
+  decoded_well_formed (Err NoLiteral) = tt
 
   never_malformed : (t : Token) → read_literal f q t ≡ malformed → ⊥
   never_malformed t e =

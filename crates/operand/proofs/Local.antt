@@ -1,4 +1,5 @@
 -- What is read of a token that stands in two texts which are alike: names, literals, indices and patterns are the same.
+use Rattle.std.specs.Prelude.{None, Option, Some, Ok}
 use Prim.Native.Nat.{ℕ, ◌+◌, ◌-◌, ◌≤◌}
 use mathlib.Core.Path.{◌≡◌, refl, ap, ◌∙◌}
 use mathlib.Core.List.{List}
@@ -10,13 +11,10 @@ use lib.Dec.{ltb, leb, eqb}
 use borrow.Author.Tests.{leb-true, leb-false, le-ltb}
 use Rattle.base.specs.Pick.{pick}
 use Rattle.base.specs.Part.{part}
-use Rattle.base.specs.declared.digit.Size.{Size}
-use Rattle.base.specs.declared.digit.Size.TheVariants.{Fits, TooLarge}
 use Rattle.record.specs.Kind.{same_row}
 use Rattle.record.specs.declared.kind.Family.{Family}
 use Rattle.record.specs.declared.kind.Family.TheVariants as family
-use Rattle.real.specs.declared.Ranged.{Ranged}
-use Rattle.real.specs.declared.Ranged.TheVariants.{InRange, OutOfRange}
+use Rattle.real.specs.declared.Real as real
 use Rattle.real.specs.Real.{real_of, exponent_of}
 use Rattle.scan.proofs.Alike.{Alike, part_alike}
 use Rattle.numeral.specs.Numeral.{signed}
@@ -36,7 +34,6 @@ use Rattle.literal.specs.RealLiteral.{fraction_from, fraction_end, digits_of, ex
 use Rattle.literal.specs.Sort.{sort_of, unsigned_hex}
 use Rattle.literal.specs.Literal.{word_literal, hex_literal_of, number_literal, literal_by, literal_of}
 use Rattle.literal.specs.declared.Literal.TheVariants as literal
-use Rattle.literal.specs.declared.Decoded.TheVariants as decoded
 use Rattle.literal.proofs.Local.{integer_alike, real_alike}
 use Rattle.syntax.specs.Property.{span_of}
 use Rattle.instance.specs.Value.{octets}
@@ -98,19 +95,19 @@ module _ {q r : List ℕ} {a b k l : ℕ} {t u : Token} (A : Alike q r a b k l) 
   null_stays = ap (λ (x : TokenKind). is_null_sort (sort_of x)) P.moved.kind
 
   -- a literal's value beside a family: numbers, truth values and NULL hold no place
-  sized_read : (f : Family) (n : Bool) (z : Size) → read_decoded f q (integer_by n z) ≡ read_decoded f r (integer_by n z)
+  sized_read : (f : Family) (n : Bool) (z : Option ℕ) → read_decoded f q (integer_by n z) ≡ read_decoded f r (integer_by n z)
   unfolding integer_by literal_value
-  sized_read f n (Fits m) = refl
-  sized_read f n TooLarge = refl
+  sized_read f n (Some m) = refl
+  sized_read f n None = refl
 
   integer_read : (f : Family) (x : Form) → t.kind ≡ Number x → read_decoded f q (integer_of q x t.start) ≡ read_decoded f r (integer_of r x u.start)
   unfolding integer_of
   integer_read f x e = sized_read f _ _ ∙ ap (read_decoded f r) (integer_stays x (λ z. e ∙ ap Number z))
 
-  ranged_read : (f : Family) (x : Ranged) → read_decoded f q (decoded_real x) ≡ read_decoded f r (decoded_real x)
+  ranged_read : (f : Family) (x : Option real.Real) → read_decoded f q (decoded_real x) ≡ read_decoded f r (decoded_real x)
   unfolding literal_value
-  ranged_read f (InRange x) = refl
-  ranged_read f OutOfRange = refl
+  ranged_read f (Some x) = refl
+  ranged_read f None = refl
 
   real_from_read : (f : Family) (n : Bool) (s : ℕ) → read_decoded f q (real_from q n s) ≡ read_decoded f r (real_from q n s)
   unfolding real_from
@@ -139,8 +136,8 @@ module _ {q r : List ℕ} {a b k l : ℕ} {t u : Token} (A : Alike q r a b k l) 
   unfolding hex_literal_of literal_value
   hex_read f asked e = rw (← unsigned_stays) (go (asked && eqb (signed q t.start) t.start))
     where
-      go : (c : Bool) → read_decoded f q (pick c (decoded.Is (literal.Octets t.start t.end)) (integer_of q Hex t.start))
-          ≡ read_decoded f r (pick c (decoded.Is (literal.Octets u.start u.end)) (integer_of r Hex u.start))
+      go : (c : Bool) → read_decoded f q (pick c (Ok (literal.Octets t.start t.end)) (integer_of q Hex t.start))
+          ≡ read_decoded f r (pick c (Ok (literal.Octets u.start u.end)) (integer_of r Hex u.start))
       go true = ap (λ (x : List ℕ). read_value (some (octets x))) octets_stay
       go false = integer_read f Hex e
 

@@ -1,5 +1,5 @@
 -- Literals beside families, indices, and names over the sample table, with what they read as.
-use Rattle.std.specs.Prelude.{ℕ, List, [], ◌∷◌, true, false, pos}
+use Rattle.std.specs.Prelude.{ℕ, List, [], ◌∷◌, true, false, pos, Err, None, Ok, Option, Result, Some}
 use Rattle.std.proofs.Math.Option.{none, some}
 use Rattle.base.specs.Ascii.{bytes}
 use Rattle.record.specs.declared.kind.Family.{Family}
@@ -7,19 +7,17 @@ use Rattle.record.specs.declared.kind.Family.TheVariants as family
 use Rattle.datetime.specs.Datetime.{datetime_of}
 use Rattle.real.specs.Real.{real_with}
 use Rattle.table.specs.Sample.{sample_table}
-use Rattle.table.specs.declared.lookup.Found.{Found}
-use Rattle.table.specs.declared.lookup.Found.TheVariants.{Property, Absent}
+use Rattle.table.specs.declared.lookup.Property.{Property}
+use Rattle.table.specs.Properties.{found}
 use Rattle.token.specs.Token.{token_at}
 use Rattle.syntax.specs.Scan.{scan}
 use Rattle.syntax.specs.Property.{property}
-use Rattle.syntax.specs.declared.path.PathResult.{PathResult}
-use Rattle.syntax.specs.declared.path.PathResult.TheVariants.{HasPath, NoPath}
 use Rattle.instance.specs.Value.{truth, whole, real, text, octets, datetime, reference}
-use Rattle.operand.specs.declared.index.IndexRead.{IndexRead}
-use Rattle.operand.specs.declared.index.IndexRead.TheVariants.{Reads, TooLarge}
 use Rattle.operand.specs.Named.{named}
 use Rattle.operand.specs.Index.{index_of}
 use Rattle.operand.specs.LiteralReading.{LiteralReading, misfit, out_of_range, malformed, reads, read_literal}
+use Rattle.syntax.specs.declared.path.Path.{Path}
+use Rattle.token.specs.declared.Token.{Token}
 
 -- a text's first token beside a family
 abbrev pub literal_beside : Family × List ℕ → LiteralReading
@@ -51,25 +49,25 @@ literals =
     ∷ []
 
 -- a text's first token as an index
-abbrev pub first_index : List ℕ → IndexRead
+abbrev pub first_index : List ℕ → Option ℕ
 first_index q = index_of q (token_at q 0)
 
-abbrev pub indices : List (List ℕ × IndexRead)
-indices = (bytes "65535", Reads 65535) ∷ (bytes "65536", TooLarge) ∷ (bytes "18446744073709551616", TooLarge) ∷ []
+abbrev pub indices : List (List ℕ × Option ℕ)
+indices = (bytes "65535", Some 65535) ∷ (bytes "65536", None) ∷ (bytes "18446744073709551616", None) ∷ []
 
-abbrev by_path : List ℕ → PathResult → Found
-by_path q (HasPath p t) = named q sample_table p
-by_path q (NoPath at) = Absent
+abbrev by_path : List ℕ → Result (Path × Token) ℕ → Option Property
+by_path q (Ok (p, t)) = named q sample_table p
+by_path q (Err at) = None
 
 -- the property of the sample that a text's path names
-abbrev pub sample_named : List ℕ → Found
+abbrev pub sample_named : List ℕ → Option Property
 sample_named q = by_path q (property (scan q) (token_at q 0))
 
-abbrev pub names : List (List ℕ × Found)
+abbrev pub names : List (List ℕ × Option Property)
 names =
-    (bytes "Dev", Property 2 0x0118)
-    ∷ (bytes "p.dEV", Property 2 0x0118)
-    ∷ (bytes "x.Dev", Absent)
-    ∷ (bytes "P.Dev.Name", Absent)
-    ∷ (bytes "P", Absent)
+    (bytes "Dev", found 2 0x0118)
+    ∷ (bytes "p.dEV", found 2 0x0118)
+    ∷ (bytes "x.Dev", None)
+    ∷ (bytes "P.Dev.Name", None)
+    ∷ (bytes "P", None)
     ∷ []

@@ -12,6 +12,21 @@ pub enum Cause {
     Datetime,
 }
 
+// What is wrong with a comparison, and where.
+#[derive(Clone, Copy)]
+pub struct ComparisonRefusal {
+    pub cause: Cause,
+    pub place: usize,
+}
+
+impl Cause {
+    pub fn at(self, place: usize) -> ComparisonRefusal
+        ensures { result ≡ record { cause = self; place = place } }
+    {
+        ComparisonRefusal { cause: self, place }
+    }
+}
+
 // 01's number of a cause.
 pub fn number_of(cause: Cause) -> usize
     ensures { result ≡ number_of cause }

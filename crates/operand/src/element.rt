@@ -5,6 +5,7 @@ ghost use Rattle.operand.specs.Element.{next_element, first_element};
 use token::{Token, token_after, token_at};
 
 // The first element of the array literal that starts at a place.
+#[tactic(auto, using(crate::proofs::Laws::element_first))]
 pub fn first_element(q: &[u8], start: usize) -> Token
     ensures { result ≡ first_element q.now start }
 {
@@ -12,6 +13,7 @@ pub fn first_element(q: &[u8], start: usize) -> Token
 }
 
 // The element after another.
+#[tactic(auto, using(crate::proofs::Laws::element_next))]
 pub fn next_element(q: &[u8], t: Token) -> Token
     ensures { result ≡ next_element q.now t }
 {

@@ -3,12 +3,11 @@
 use mathlib.Core.Path.{◌≡◌, refl, ap, ap₂, sym as inv, ◌∙◌}
 use mathlib.Core.Bool.{Bool, true, false, ◌&&◌, ◌||◌, and-true, and_assoc, or_assoc as or-of-or}
 use mathlib.Core.List.{List}
-use Prim.Native.Nat.{ℕ, ◌<◌}
+use Prim.Native.Nat.{ℕ}
 use lib.Bits.{bit_or, or_zero_l, or_zero_r}
 use lib.ListN.{length, get_or}
 use Rattle.base.specs.Bits.{bit}
 use Rattle.base.proofs.Bits.{bit_or_law, bit_zero, same_members, or_assoc}
-use Rattle.pattern.specs.declared.fragment.Fragment.{Fragment}
 use Rattle.pattern.specs.Automaton.{kept_if, Automaton, over, nothing, empty_text, in_sequence, in_alternatives}
 use Rattle.pattern.specs.Links.{Adds}
 

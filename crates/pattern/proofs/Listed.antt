@@ -1,15 +1,14 @@
 -- The symbols of a pattern are those that its text lists, whatever stands between them, and by their place in the list they are the symbols of what is
 -- read. Assumes nothing.
-use mathlib.Core.Path.{◌≡◌, refl, ap, subst, sym as inv, ◌∙◌}
-use mathlib.Core.Bool.{Bool, true, false, ◌||◌}
+use mathlib.Core.Path.{◌≡◌, refl, ap, subst, sym as inv}
+use mathlib.Core.Bool.{Bool, false}
 use mathlib.Core.List.{List, [], ◌∷◌, ◌++◌, append_assoc, append-nil}
-use mathlib.Core.Logic.{◌↔◌}
-use Prim.Native.Nat.{ℕ, zero, suc, ◌≤◌, ◌<◌, ◌+◌}
+use Prim.Native.Nat.{ℕ, suc, ◌<◌, ◌+◌}
 use native.Mathlib.Omega.{arith}
-use Rattle.pattern.specs.Regex.{Symbol, stands_for, any, one, set, Regex, empty, sym, seq, alt, opt, plus}
-use Rattle.pattern.specs.Character.{special, dot, backslash, open_set, open_group, close_group, bar, asterisk, plus_sign, question_mark, circumflex, close_set, starts_with}
+use Rattle.pattern.specs.Regex.{Symbol, stands_for, Regex, empty, sym, seq, alt, opt, plus}
+use Rattle.pattern.specs.Character.{special, open_group, close_group, bar}
 use Rattle.pattern.specs.Grammar.{SymbolText, any_character, plain_character, escaped_character, plain_set, negated_set, Sign, no_sign, star_sign, plus_sign_rule, optional_sign, Derives, one_alternative, more_alternatives, no_item, more_items, symbol_item_rule, group_item, Kind}
-use Rattle.pattern.specs.Reading.{front, symbol, parse}
+use Rattle.pattern.specs.Reading.{parse}
 use mathlib.Core.Option.{some}
 use Rattle.pattern.specs.Hits.{between, Lists, no_more, passed, listed, stands_at}
 use Rattle.pattern.proofs.Complete.{plain, symbol_complete}

@@ -1,6 +1,6 @@
 -- What stands at an offset, as the front of what is left there. Assumes nothing.
 use mathlib.Core.Path.{◌≡◌}
-use mathlib.Core.Bool.{true, false, ◌||◌}
+use mathlib.Core.Bool.{Bool, true, false, ◌||◌}
 use mathlib.Core.List.{List}
 use Prim.Native.Nat.{ℕ, ◌≤◌, ◌<◌, ◌+◌}
 use lib.ListN.{length, get_or, drop, drop_of_length-le}
@@ -26,6 +26,6 @@ pub ends_past : (s : List ℕ) (at : ℕ) → length s ≤ at → true ≡ ends 
 unfolding ends
 ends_past s at h = rw (drop_of_length-le s h)
 
-pub ends_here : (s : List ℕ) (at : ℕ) → at < length s → (eqb (get_or s at 0) bar || eqb (get_or s at 0) close_group) ≡ ends (drop at s)
+pub ends_here : (s : List ℕ) (at : ℕ) → at < length s → {t : Bool} → (eqb (get_or s at 0) bar || eqb (get_or s at 0) close_group) ≡ t → t ≡ ends (drop at s)
 unfolding ends
-ends_here s at h = rw (left_next s at h)
+ends_here s at h q = rw (left_next s at h, q)

@@ -2,7 +2,7 @@
 use mathlib.Core.Path.{◌≡◌, refl, ap, subst, sym as inv, ◌∙◌}
 use mathlib.Core.Bool.{Bool, true, false, ◌&&◌, ◌||◌}
 use mathlib.Core.List.{List, [], ◌∷◌}
-use Prim.Native.Nat.{ℕ, zero, suc, ◌≤◌, ◌<◌, ◌+◌, ◌*◌, ◌-◌, ◌%◌, ◌^◌}
+use Prim.Native.Nat.{ℕ, suc, ◌≤◌, ◌<◌, ◌+◌, ◌*◌, ◌-◌, ◌%◌, ◌^◌}
 use native.Mathlib.Omega.{arith}
 use native.Mathlib.Decide.{ℕ_discrete, dec_lt}
 use lib.ListN.{length, drop, get_or, length-drop, drop_of_length-le}
@@ -10,8 +10,7 @@ use lib.Bits.{bit_or}
 use Rattle.base.specs.Bits.{bit}
 use Rattle.base.proofs.Bits.{bit_or_law, bit_zero, bit_same, bit_other}
 use Rattle.base.proofs.Lists.{left_next}
-use Rattle.pattern.specs.declared.symbol.SymbolRead.{SymbolRead}
-use Rattle.pattern.specs.declared.symbol.SymbolRead.TheVariants.{BadSymbol, SymbolTo}
+use Rattle.std.specs.Prelude.{Option, Some, None}
 use Rattle.pattern.specs.Regex.{Symbol, stands_for}
 use Rattle.pattern.specs.Reading.{Reading, malformed, front, symbol}
 use Rattle.pattern.specs.Automaton.{kept_if}
@@ -31,7 +30,7 @@ use Rattle.pattern.proofs.Parts.{symbol_bad, symbol_good}
 -- ---- a character that isn't special is a symbol
 
 pub symbol_ordinary : (s : List ℕ) (at c : ℕ) → at < length s → (get_or s at 0 ≡ dot → ⊥) → {t : Bool} → t ≡ special (get_or s at 0) → t ≡ false
-    → GivesSymbol s c (SymbolTo (at + 1) (eqb (get_or s at 0) c)) (symbol (drop at s))
+    → GivesSymbol s c (Some (at + 1, eqb (get_or s at 0) c)) (symbol (drop at s))
 symbol_ordinary s at c inside no-dot test q =
     let z = plain (get_or s at 0) (inv test ∙ q) in
     symbol_plain s at c inside no-dot (eqb-false _ _ z.1) (eqb-false _ _ z.4) test q
@@ -138,21 +137,21 @@ module _ (s : List ℕ) (c : ℕ) where
             };
       }
 
-      module _ {t : Bool} (test : t ≡ between (get_or s at 0)) (failed : t ≡ false) {y : SymbolRead} (read : GivesSymbol s c y (symbol (drop at s))) where
-        pub scanned_bad : y ≡ BadSymbol → Hits s c found
+      module _ {t : Bool} (test : t ≡ between (get_or s at 0)) (failed : t ≡ false) {y : Option (ℕ × Bool)} (read : GivesSymbol s c y (symbol (drop at s))) where
+        pub scanned_bad : y ≡ None → Hits s c found
         scanned_bad q ps l i b =
             let r = here.each ps l in
             let x = first_listed r.rest (drop at s) (get_or s at 0) (drop (at + 1) s) (left_next s at inside) (inv test ∙ failed) r.lists in
             let z : malformed ≡ front x.0 x.1 = inv (symbol_bad s c y (symbol (drop at s)) read q) ∙ x.2 in
             absurd (let n : ◌≡◌ {A = ℕ} 0 1 = cc in omega arith)
 
-        pub symbol_further : {e : ℕ} {hit : Bool} → y ≡ SymbolTo e hit → length s - e < length s - at
+        pub symbol_further : {e : ℕ} {hit : Bool} → y ≡ Some (e, hit) → length s - e < length s - at
         symbol_further {e} {hit} q =
             let x = symbol_good s c y (symbol (drop at s)) e hit read q in
             let l = left_less (subst (λ (X : Reading Symbol). Leaves (length (drop at s)) X) x.1 (symbol_leaves (drop at s))) in
             omega (arith, length-drop e s, length-drop at s)
 
-        module _ {e own : ℕ} {hit : Bool} (q : y ≡ SymbolTo e hit) (room : k < 64) (o : own ≡ kept_if hit (1 * 2 ^ k % 2 ^ 64)) where
+        module _ {e own : ℕ} {hit : Bool} (q : y ≡ Some (e, hit)) (room : k < 64) (o : own ≡ kept_if hit (1 * 2 ^ k % 2 ^ 64)) where
           bits : (i : ℕ) → bit (bit_or found own) i ≡ (bit found i || (hit && bit (2 ^ k) i))
           bits i = bit_or_law found own i ∙ ap (λ (b : Bool). bit found i || b) (ap (λ (n : ℕ). bit n i) (o ∙ ap (kept_if hit) (shl_one k room)) ∙ bit_kept hit (2 ^ k) i)
 

@@ -9,13 +9,13 @@ use borrow.Author.Tests.{not-true, not-false}
 use lib.ListN.{length, drop}
 use Rattle.pattern.specs.declared.fragment.Fragment.{Fragment}
 use Rattle.pattern.specs.declared.reader.PartRead.{PartRead}
-use Rattle.pattern.specs.declared.reader.PartRead.TheVariants.{BadPart, PartTo}
-use Rattle.pattern.specs.Regex.{Regex, empty, seq, alt}
+use Rattle.std.specs.Prelude.{Option, Some, None}
+use Rattle.pattern.specs.Regex.{Regex, empty}
 use Rattle.pattern.specs.Character.{bar, starts_with}
 use Rattle.pattern.specs.Reading.{Reading, malformed, front, Part, part, ends, after, alternative_to, alternatives, sequence, item}
 use Rattle.pattern.specs.Automaton.{Automaton, automaton_of, over, no_fragment, empty_fragment, sequence_fragment, alternatives_fragment, nothing, empty_text, in_sequence, in_alternatives}
 use Rattle.pattern.specs.Links.{Adds}
-use Rattle.pattern.specs.Answers.{GivesPart, bad_part, good_part, ReadsAlternatives, ReadsSequence, ReadsItem}
+use Rattle.pattern.specs.Answers.{part_to, GivesPart, bad_part, good_part, ReadsAlternatives, ReadsSequence, ReadsItem}
 use Rattle.pattern.proofs.Automata.{sequence_assoc, sequence_left, sequence_right, alternatives_assoc, alternatives_left, adds_nothing, adds_both}
 use Rattle.pattern.proofs.Offsets.{drop_next}
 use Rattle.pattern.proofs.Parts.{part_bad, part_good, sequence_further, item_further, sequence_all, item_all}
@@ -36,18 +36,18 @@ pub record Onward (join : Automaton → Automaton → Automaton) (g : Fragment) 
 
 -- where the rest can't be read, neither can the whole
 bad_rest : {join : Automaton → Automaton → Automaton} {a : Automaton} {s before after : List ℕ} (X Y : Reading Part) → X ≡ malformed → Continues join a X Y
-    → length after ≡ 64 → GivesPart s before after BadPart Y
+    → length after ≡ 64 → GivesPart s before after None Y
 bad_rest X Y z stopped all = bad_part all
 bad_rest X Y z (continued {p = p} {t = u} e h) all = absurd (let v : ◌≡◌ {A = ℕ} 0 1 = cc in omega arith)
 
 -- where the rest is one part, the whole is that part with what was read before
 last_part : (join : Automaton → Automaton → Automaton) (a : Automaton) (x : Regex ℕ) {s before after : List ℕ} {e m : ℕ} {g : Fragment}
     → (join a (automaton_of x)).sets ≡ g → Adds (join a (automaton_of x)).next before after → (Y : Reading Part) → Continues join a (part x m (drop e s)) Y
-    → GivesPart s before after (PartTo e m g) Y
+    → GivesPart s before after (Some (part_to e m g)) Y
 last_part join a x {s} {before} {after} {e} {m} {g} p l Y (continued {w = v} y z) =
     let u : (automaton_of v.regex).sets ≡ g = ap (λ (b : Automaton). b.sets) z ∙ p in
-    subst (λ (n : ℕ). GivesPart s before after (PartTo e n g) (front v (drop e s))) y
-    (subst (λ (f : Fragment). GivesPart s before after (PartTo e v.symbols f) (front v (drop e s))) u
+    subst (λ (n : ℕ). GivesPart s before after (Some (part_to e n g)) (front v (drop e s))) y
+    (subst (λ (f : Fragment). GivesPart s before after (Some (part_to e v.symbols f)) (front v (drop e s))) u
     (good_part (subst (λ (b : Automaton). Adds b.next before after) (inv z) l)))
 
 -- ---- one step of the reading
@@ -105,7 +105,7 @@ module _ (s : List ℕ) (at d k : ℕ) (before : List ℕ) where
     module _ (ended : t ≡ true) (f : ℕ)
         (o : Onward in_sequence g before links (3 * (length s - i) + 2) (λ b. sequence b d n (drop i s)) (sequence f d k (drop at s))) where
       ends_at : (b : ℕ) → 3 * (length s - i) + 2 ≤ b → Continues in_sequence o.automaton (sequence b d n (drop i s)) (sequence f d k (drop at s))
-          → GivesPart s before links (PartTo i n g) (sequence f d k (drop at s))
+          → GivesPart s before links (Some (part_to i n g)) (sequence f d k (drop at s))
       unfolding sequence
       ends_at zero l c = absurd (omega arith)
       ends_at (suc b) l c =
@@ -116,56 +116,56 @@ module _ (s : List ℕ) (at d k : ℕ) (before : List ℕ) where
           (sequence f d k (drop at s))
           (subst (λ (X : Reading Part). Continues in_sequence o.automaton X (sequence f d k (drop at s))) e c)
 
-    pub sequencing_end : not t ≡ false → ReadsSequence s at d k before links (PartTo i n g)
+    pub sequencing_end : not t ≡ false → ReadsSequence s at d k before links (Some (part_to i n g))
     sequencing_end ended f le = let o = here.onward f le in ends_at (not-false t ended) f o o.bound o.enough o.continues
 
     -- what an item adds
-    module _ {between : List ℕ} {r : PartRead} (more : not t ≡ true) (read : ReadsItem s i d n links between r) where
-      item_next : {e m : ℕ} {h : Fragment} → r ≡ PartTo e m h → {g2 : Fragment} {linked : List ℕ} → Adds (over g.last h.first) between linked → g2 ≡ sequence_fragment g h
+    module _ {between : List ℕ} {r : Option PartRead} (more : not t ≡ true) (read : ReadsItem s i d n links between r) where
+      item_next : {v : PartRead} → r ≡ Some v → {g2 : Fragment} {linked : List ℕ} → Adds (over g.last v.sets.first) between linked → g2 ≡ sequence_fragment g v.sets
           → (Y : Reading Part) → Onward in_sequence g before links (3 * (length s - i) + 2) (λ b. sequence b d n (drop i s)) Y
-          → Onward in_sequence g2 before linked (3 * (length s - e) + 2) (λ b. sequence b d m (drop e s)) Y
-      item_next {e} {m} {h} q {g2} {linked} l w Y o = go o.bound o.enough o.continues
+          → Onward in_sequence g2 before linked (3 * (length s - v.end) + 2) (λ b. sequence b d v.symbols (drop v.end s)) Y
+      item_next {v} q {g2} {linked} l w Y o = go o.bound o.enough o.continues
         where
           go : (b : ℕ) → 3 * (length s - i) + 2 ≤ b → Continues in_sequence o.automaton (sequence b d n (drop i s)) Y
-              → Onward in_sequence g2 before linked (3 * (length s - e) + 2) (λ b. sequence b d m (drop e s)) Y
+              → Onward in_sequence g2 before linked (3 * (length s - v.end) + 2) (λ b. sequence b d v.symbols (drop v.end s)) Y
           go zero le c = absurd (omega arith)
           go (suc b) le c =
-              let x = part_good s links between r (item b d n (drop i s)) e m h (read b (omega arith)) q in
+              let x = part_good s links between r (item b d n (drop i s)) v (read b (omega arith)) q in
               let shorter = item_further s i d n read q in
-              let z = sequence_reads b d n m (drop i s) (drop e s) x.regex (inv test ∙ not-true t more) x.reads in
+              let z = sequence_reads b d n v.symbols (drop i s) (drop v.end s) x.regex (inv test ∙ not-true t more) x.reads in
               record {
                 automaton = in_sequence o.automaton (automaton_of x.regex);
                 sets = ap₂ sequence_fragment o.sets (inv x.sets) ∙ inv w;
                 added =
                     adds_both (adds_both o.added x.links)
-                    (subst (λ (v : ℕ). Adds (over v (automaton_of x.regex).sets.first) between linked) (ap (λ (f : Fragment). f.last) (inv o.sets))
-                    (subst (λ (v : ℕ). Adds (over g.last v) between linked) (ap (λ (f : Fragment). f.first) x.sets) l));
+                    (subst (λ (w : ℕ). Adds (over w (automaton_of x.regex).sets.first) between linked) (ap (λ (f : Fragment). f.last) (inv o.sets))
+                    (subst (λ (w : ℕ). Adds (over g.last w) between linked) (ap (λ (f : Fragment). f.first) x.sets) l));
                 bound = b;
                 enough = omega (arith, shorter);
-                continues = item_joined o.automaton x.regex (sequence b d m (drop e s)) Y (subst (λ (X : Reading Part). Continues in_sequence o.automaton X Y) z c);
+                continues = item_joined o.automaton x.regex (sequence b d v.symbols (drop v.end s)) Y (subst (λ (X : Reading Part). Continues in_sequence o.automaton X Y) z c);
               }
 
-      pub sequencing_next : {e m : ℕ} {h : Fragment} → r ≡ PartTo e m h → {g2 : Fragment} {linked : List ℕ} → Adds (over g.last h.first) between linked
-          → g2 ≡ sequence_fragment g h → Sequencing s at d k before e m g2 linked
-      sequencing_next {e} {m} {h} q {g2} {linked} l w = record {
+      pub sequencing_next : {v : PartRead} → r ≡ Some v → {g2 : Fragment} {linked : List ℕ} → Adds (over g.last v.sets.first) between linked
+          → g2 ≡ sequence_fragment g v.sets → Sequencing s at d k before v.end v.symbols g2 linked
+      sequencing_next {v} q {g2} {linked} l w = record {
         onward = λ f le. item_next q l w (sequence f d k (drop at s)) (here.onward f le);
         further = omega (arith, here.further, item_further s i d n read q);
         all = l.all;
       }
 
-      item_stops : r ≡ BadPart → (Y : Reading Part) → Onward in_sequence g before links (3 * (length s - i) + 2) (λ b. sequence b d n (drop i s)) Y
-          → GivesPart s before between BadPart Y
+      item_stops : r ≡ None → (Y : Reading Part) → Onward in_sequence g before links (3 * (length s - i) + 2) (λ b. sequence b d n (drop i s)) Y
+          → GivesPart s before between None Y
       unfolding sequence
       item_stops q Y o = go o.bound o.enough o.continues
         where
-          go : (b : ℕ) → 3 * (length s - i) + 2 ≤ b → Continues in_sequence o.automaton (sequence b d n (drop i s)) Y → GivesPart s before between BadPart Y
+          go : (b : ℕ) → 3 * (length s - i) + 2 ≤ b → Continues in_sequence o.automaton (sequence b d n (drop i s)) Y → GivesPart s before between None Y
           go zero le c = absurd (omega arith)
           go (suc b) le c =
               let x = part_bad s links between r (item b d n (drop i s)) (read b (omega arith)) q in
               bad_rest (sequence (suc b) d n (drop i s)) Y (rw (← test, not-true t more, x, sequence)) c (item_all s i d n links between read)
 
-      pub sequencing_bad : r ≡ BadPart → ReadsSequence s at d k before between BadPart
-      sequencing_bad q f le = item_stops q (sequence f d k (drop at s)) (here.onward f le)
+      pub sequencing_bad : r ≡ None → {z : Option PartRead} → z ≡ None → ReadsSequence s at d k before between z
+      sequencing_bad q e f le = rw e (item_stops q (sequence f d k (drop at s)) (here.onward f le))
 
 -- ---- alternatives
 
@@ -200,56 +200,56 @@ module _ (s : List ℕ) (at d k : ℕ) (before : List ℕ) where
       same malformed = stopped
       same (front p t) = continued refl (inv (alternatives_left (automaton_of p.regex)))
 
-  module _ {i n : ℕ} {g : Fragment} {links between : List ℕ} {r : PartRead} (here : Alternating s at d k before i n g links) (read : ReadsSequence s i d n links between r) where
-    sequence_stops : r ≡ BadPart → (Y : Reading Part) → Onward in_alternatives g before links (3 * (length s - i) + 3) (λ b. alternatives b d n (drop i s)) Y
-        → GivesPart s before between BadPart Y
+  module _ {i n : ℕ} {g : Fragment} {links between : List ℕ} {r : Option PartRead} (here : Alternating s at d k before i n g links) (read : ReadsSequence s i d n links between r) where
+    sequence_stops : r ≡ None → (Y : Reading Part) → Onward in_alternatives g before links (3 * (length s - i) + 3) (λ b. alternatives b d n (drop i s)) Y
+        → GivesPart s before between None Y
     unfolding alternatives
     sequence_stops q Y o = go o.bound o.enough o.continues
       where
-        go : (b : ℕ) → 3 * (length s - i) + 3 ≤ b → Continues in_alternatives o.automaton (alternatives b d n (drop i s)) Y → GivesPart s before between BadPart Y
+        go : (b : ℕ) → 3 * (length s - i) + 3 ≤ b → Continues in_alternatives o.automaton (alternatives b d n (drop i s)) Y → GivesPart s before between None Y
         go zero le c = absurd (omega arith)
         go (suc b) le c =
             let x = part_bad s links between r (sequence b d n (drop i s)) (read b (omega arith)) q in
             bad_rest (alternatives (suc b) d n (drop i s)) Y (rw (x, alternatives)) c (sequence_all s i d n links between read)
 
-    pub alternating_bad : r ≡ BadPart → ReadsAlternatives s at d k before between BadPart
-    alternating_bad q f le = sequence_stops q (alternatives f d k (drop at s)) (here.onward f le)
+    pub alternating_bad : r ≡ None → {z : Option PartRead} → z ≡ None → ReadsAlternatives s at d k before between z
+    alternating_bad q e f le = rw e (sequence_stops q (alternatives f d k (drop at s)) (here.onward f le))
 
-    module _ {e m : ℕ} {h g2 : Fragment} (q : r ≡ PartTo e m h) (w : g2 ≡ alternatives_fragment g h) {t : Bool} (test : t ≡ starts_with bar (drop e s)) where
+    module _ {v : PartRead} {g2 : Fragment} (q : r ≡ Some v) (w : g2 ≡ alternatives_fragment g v.sets) {t : Bool} (test : t ≡ starts_with bar (drop v.end s)) where
       -- with one alternative more
-      joined_sets : (a : Automaton) (x : Regex ℕ) → a.sets ≡ g → h ≡ (automaton_of x).sets → (in_alternatives a (automaton_of x)).sets ≡ g2
+      joined_sets : (a : Automaton) (x : Regex ℕ) → a.sets ≡ g → v.sets ≡ (automaton_of x).sets → (in_alternatives a (automaton_of x)).sets ≡ g2
       joined_sets a x p u = ap₂ alternatives_fragment p (inv u) ∙ inv w
 
       alternative_ends : not t ≡ true → (Y : Reading Part) → Onward in_alternatives g before links (3 * (length s - i) + 3) (λ b. alternatives b d n (drop i s)) Y
-          → GivesPart s before between (PartTo e m g2) Y
+          → GivesPart s before between (Some (part_to v.end v.symbols g2)) Y
       alternative_ends last Y o = go o.bound o.enough o.continues
         where
-          go : (b : ℕ) → 3 * (length s - i) + 3 ≤ b → Continues in_alternatives o.automaton (alternatives b d n (drop i s)) Y → GivesPart s before between (PartTo e m g2) Y
+          go : (b : ℕ) → 3 * (length s - i) + 3 ≤ b → Continues in_alternatives o.automaton (alternatives b d n (drop i s)) Y → GivesPart s before between (Some (part_to v.end v.symbols g2)) Y
           go zero le c = absurd (omega arith)
           go (suc b) le c =
-              let x = part_good s links between r (sequence b d n (drop i s)) e m h (read b (omega arith)) q in
-              let z = alternative_reads b d n m (drop i s) (drop e s) x.regex (inv test ∙ not-true t last) x.reads in
+              let x = part_good s links between r (sequence b d n (drop i s)) v (read b (omega arith)) q in
+              let z = alternative_reads b d n v.symbols (drop i s) (drop v.end s) x.regex (inv test ∙ not-true t last) x.reads in
               last_part in_alternatives o.automaton x.regex (joined_sets o.automaton x.regex o.sets x.sets) (adds_both o.added x.links) Y
               (subst (λ (X : Reading Part). Continues in_alternatives o.automaton X Y) z c)
 
-      pub alternating_end : not t ≡ true → ReadsAlternatives s at d k before between (PartTo e m g2)
+      pub alternating_end : not t ≡ true → ReadsAlternatives s at d k before between (Some (part_to v.end v.symbols g2))
       alternating_end last f le = alternative_ends last (alternatives f d k (drop at s)) (here.onward f le)
 
-      module _ (within : t ≡ true → e < length s) (bars : not t ≡ false) where
+      module _ (within : t ≡ true → v.end < length s) (bars : not t ≡ false) where
         alternative_next : (Y : Reading Part) → Onward in_alternatives g before links (3 * (length s - i) + 3) (λ b. alternatives b d n (drop i s)) Y
-            → Onward in_alternatives g2 before between (3 * (length s - (e + 1)) + 3) (λ b. alternatives b d m (drop (e + 1) s)) Y
+            → Onward in_alternatives g2 before between (3 * (length s - (v.end + 1)) + 3) (λ b. alternatives b d v.symbols (drop (v.end + 1) s)) Y
         alternative_next Y o = go o.bound o.enough o.continues
           where
             go : (b : ℕ) → 3 * (length s - i) + 3 ≤ b → Continues in_alternatives o.automaton (alternatives b d n (drop i s)) Y
-                → Onward in_alternatives g2 before between (3 * (length s - (e + 1)) + 3) (λ b. alternatives b d m (drop (e + 1) s)) Y
+                → Onward in_alternatives g2 before between (3 * (length s - (v.end + 1)) + 3) (λ b. alternatives b d v.symbols (drop (v.end + 1) s)) Y
             go zero le c = absurd (omega arith)
             go (suc b) le c =
-                let x = part_good s links between r (sequence b d n (drop i s)) e m h (read b (omega arith)) q in
+                let x = part_good s links between r (sequence b d n (drop i s)) v (read b (omega arith)) q in
                 let inside = within (not-false t bars) in
                 let shorter = sequence_further s i d n read q in
-                let z : alternatives (suc b) d n (drop i s) ≡ alternative_to x.regex (alternatives b d m (drop (e + 1) s)) =
-                alternatives_read b d n m (drop i s) (drop e s) x.regex (inv test ∙ not-false t bars) x.reads
-                ∙ ap (λ (w : List ℕ). alternative_to x.regex (alternatives b d m w)) (drop_next s e) in
+                let z : alternatives (suc b) d n (drop i s) ≡ alternative_to x.regex (alternatives b d v.symbols (drop (v.end + 1) s)) =
+                alternatives_read b d n v.symbols (drop i s) (drop v.end s) x.regex (inv test ∙ not-false t bars) x.reads
+                ∙ ap (λ (w : List ℕ). alternative_to x.regex (alternatives b d v.symbols w)) (drop_next s v.end) in
                 record {
                   automaton = in_alternatives o.automaton (automaton_of x.regex);
                   sets = joined_sets o.automaton x.regex o.sets x.sets;
@@ -257,11 +257,11 @@ module _ (s : List ℕ) (at d k : ℕ) (before : List ℕ) where
                   bound = b;
                   enough = omega (arith, shorter, inside);
                   continues =
-                      alternative_joined o.automaton x.regex (alternatives b d m (drop (e + 1) s)) Y
+                      alternative_joined o.automaton x.regex (alternatives b d v.symbols (drop (v.end + 1) s)) Y
                       (subst (λ (X : Reading Part). Continues in_alternatives o.automaton X Y) z c);
                 }
 
-        pub alternating_next : Alternating s at d k before (e + 1) m g2 between
+        pub alternating_next : Alternating s at d k before (v.end + 1) v.symbols g2 between
         alternating_next = record {
           onward = λ f le. alternative_next (alternatives f d k (drop at s)) (here.onward f le);
           further = omega (arith, here.further, sequence_further s i d n read q);

@@ -10,12 +10,7 @@ use lib.Dec.{ltb, leb, eqb}
 use Rattle.base.specs.Pick.{pick}
 use Rattle.base.specs.Range.{within}
 use Rattle.base.proofs.Lists.{left_next}
-use Rattle.pattern.specs.declared.set.MemberRead.{MemberRead}
-use Rattle.pattern.specs.declared.set.MemberRead.TheVariants.{BadMember, MemberTo}
-use Rattle.pattern.specs.declared.set.RangeRead.{RangeRead}
-use Rattle.pattern.specs.declared.set.RangeRead.TheVariants.{BadRange, RangeTo}
-use Rattle.pattern.specs.declared.symbol.SymbolRead.{SymbolRead}
-use Rattle.pattern.specs.declared.symbol.SymbolRead.TheVariants.{BadSymbol, SymbolTo}
+use Rattle.std.specs.Prelude.{Option, Some, None}
 use Rattle.pattern.specs.Regex.{Range, in_ranges}
 use Rattle.pattern.specs.Character.{backslash, hyphen, close_set, starts_with}
 use Rattle.pattern.specs.Reading.{Reading, malformed, front, escaped, member, up_to, range_from, range, add_range, members}
@@ -24,79 +19,79 @@ use Rattle.pattern.proofs.Offsets.{drop_next}
 
 -- ---- what an answer tells of the reading
 
-pub member_bad : {s : List ℕ} {r : MemberRead} {X : Reading ℕ} → GivesMember s r X → r ≡ BadMember → X ≡ malformed
+pub member_bad : {s : List ℕ} {r : Option (ℕ × ℕ)} {X : Reading ℕ} → GivesMember s r X → r ≡ None → X ≡ malformed
 member_bad bad q = refl
 member_bad good q = absurd (let z : ◌≡◌ {A = ℕ} 0 1 = cc in omega arith)
 
-pub member_good : {s : List ℕ} {r : MemberRead} {X : Reading ℕ} {e x : ℕ} → GivesMember s r X → r ≡ MemberTo e x → X ≡ front x (drop e s)
+pub member_good : {s : List ℕ} {r : Option (ℕ × ℕ)} {X : Reading ℕ} {e x : ℕ} → GivesMember s r X → r ≡ Some (e, x) → X ≡ front x (drop e s)
 member_good bad q = absurd (let z : ◌≡◌ {A = ℕ} 0 1 = cc in omega arith)
-member_good good q = cc
+member_good {s} {e = e} {x = x} (good {e = k} {a = a}) q =
+    let w : ◌≡◌ {A = ℕ × ℕ} (k, a) (e, x) = cc in
+    λ i. front (w i).1 (drop (w i).0 s)
 
-range_bad : {s : List ℕ} {r : RangeRead} {X : Reading Range} → GivesRange s r X → r ≡ BadRange → X ≡ malformed
+range_bad : {s : List ℕ} {r : Option (ℕ × ℕ × ℕ)} {X : Reading Range} → GivesRange s r X → r ≡ None → X ≡ malformed
 range_bad bad q = refl
 range_bad good q = absurd (let z : ◌≡◌ {A = ℕ} 0 1 = cc in omega arith)
 
-range_good : {s : List ℕ} {r : RangeRead} {X : Reading Range} {e low high : ℕ} → GivesRange s r X → r ≡ RangeTo e low high
+range_good : {s : List ℕ} {r : Option (ℕ × ℕ × ℕ)} {X : Reading Range} {e low high : ℕ} → GivesRange s r X → r ≡ Some (e, low, high)
     → X ≡ front (record { low = low; high = high }) (drop e s)
 range_good bad q = absurd (let z : ◌≡◌ {A = ℕ} 0 1 = cc in omega arith)
 range_good {s} {e = e} {low = low} {high = high} (good {e = k} {a = a}) q =
-    let x : k ≡ e = cc in
-    let y : a.low ≡ low = cc in
-    let z : a.high ≡ high = cc in
-    λ i. front (record { low = y i; high = z i }) (drop (x i) s)
+    let w : ◌≡◌ {A = ℕ × ℕ × ℕ} (k, a.low, a.high) (e, low, high) = cc in
+    λ i. front (record { low = (w i).1; high = (w i).2 }) (drop (w i).0 s)
 
 -- ---- a character
 
 module _ (s : List ℕ) (at : ℕ) where
-  pub escaped_end : length s ≤ at → GivesMember s BadMember (escaped (drop at s))
+  pub escaped_end : length s ≤ at → GivesMember s None (escaped (drop at s))
   unfolding escaped
   escaped_end h = rw (drop_of_length-le s h) bad
 
-  pub escaped_one : at < length s → GivesMember s (MemberTo (at + 1) (get_or s at 0)) (escaped (drop at s))
+  pub escaped_one : at < length s → GivesMember s (Some (at + 1, get_or s at 0)) (escaped (drop at s))
   unfolding escaped
   escaped_one h = rw (left_next s at h) good
 
-  pub member_end : length s ≤ at → GivesMember s BadMember (member (drop at s))
+  pub member_end : length s ≤ at → GivesMember s None (member (drop at s))
   unfolding member
   member_end h = rw (drop_of_length-le s h) bad
 
-  pub member_escaped : {r : MemberRead} → at < length s → get_or s at 0 ≡ backslash → GivesMember s r (escaped (drop (at + 1) s)) → GivesMember s r (member (drop at s))
+  pub member_escaped : {r : Option (ℕ × ℕ)} → at < length s → get_or s at 0 ≡ backslash → GivesMember s r (escaped (drop (at + 1) s)) → GivesMember s r (member (drop at s))
   unfolding member
   member_escaped h q g = rw (left_next s at h, eq-eqb _ _ q) g
 
   pub member_special : at < length s → (get_or s at 0 ≡ backslash → ⊥) → (eqb (get_or s at 0) hyphen || eqb (get_or s at 0) close_set) ≡ true
-      → GivesMember s BadMember (member (drop at s))
+      → GivesMember s None (member (drop at s))
   unfolding member
   member_special h n q = rw (left_next s at h, ne_eqb _ _ n, q) bad
 
   pub member_plain : at < length s → (get_or s at 0 ≡ backslash → ⊥) → (eqb (get_or s at 0) hyphen || eqb (get_or s at 0) close_set) ≡ false
-      → GivesMember s (MemberTo (at + 1) (get_or s at 0)) (member (drop at s))
+      → GivesMember s (Some (at + 1, get_or s at 0)) (member (drop at s))
   unfolding member
   member_plain h n q = rw (left_next s at h, ne_eqb _ _ n, q) good
 
 -- ---- a character or a range
 
-module _ (s : List ℕ) (at : ℕ) {r : MemberRead} (low_read : GivesMember s r (member (drop at s))) where
-  pub range_none : r ≡ BadMember → GivesRange s BadRange (range (drop at s))
+module _ (s : List ℕ) (at : ℕ) {r : Option (ℕ × ℕ)} (low_read : GivesMember s r (member (drop at s))) where
+  pub range_none : r ≡ None → GivesRange s None (range (drop at s))
   unfolding range
   range_none q = rw (member_bad low_read q) bad
 
-  module _ {e low : ℕ} (q : r ≡ MemberTo e low) {t : Bool} (test : t ≡ starts_with hyphen (drop e s)) where
-    pub range_one : not t ≡ true → GivesRange s (RangeTo e low low) (range (drop at s))
+  module _ {e low : ℕ} (q : r ≡ Some (e, low)) {t : Bool} (test : t ≡ starts_with hyphen (drop e s)) where
+    pub range_one : not t ≡ true → GivesRange s (Some (e, low, low)) (range (drop at s))
     unfolding range
     range_one n = rw (member_good low_read q, ← test, not-true t n) good
 
-    module _ (n : not t ≡ false) {r2 : MemberRead} (high_read : GivesMember s r2 (member (drop (e + 1) s))) where
-      pub range_open : r2 ≡ BadMember → GivesRange s BadRange (range (drop at s))
+    module _ (n : not t ≡ false) {r2 : Option (ℕ × ℕ)} (high_read : GivesMember s r2 (member (drop (e + 1) s))) where
+      pub range_open : r2 ≡ None → GivesRange s None (range (drop at s))
       unfolding range
       range_open q2 = rw (member_good low_read q, ← test, not-false t n, drop_next s e, member_bad high_read q2) bad
 
-      module _ {e2 high : ℕ} (q2 : r2 ≡ MemberTo e2 high) where
-        pub range_reversed : high < low → GivesRange s BadRange (range (drop at s))
+      module _ {e2 high : ℕ} (q2 : r2 ≡ Some (e2, high)) where
+        pub range_reversed : high < low → GivesRange s None (range (drop at s))
         unfolding range
         range_reversed h = rw (member_good low_read q, ← test, not-false t n, drop_next s e, member_good high_read q2, lt-ltb _ _ h) bad
 
-        pub range_both : low ≤ high → GivesRange s (RangeTo e2 low high) (range (drop at s))
+        pub range_both : low ≤ high → GivesRange s (Some (e2, low, high)) (range (drop at s))
         unfolding range
         range_both h = rw (member_good low_read q, ← test, not-false t n, drop_next s e, member_good high_read q2, le-ltb _ _ h) good
 
@@ -150,7 +145,7 @@ pub left_less : {A : Type 0} {n : ℕ} {a : A} {s : List ℕ} → Leaves n (fron
 left_less (leaves s l) = l
 
 -- the characters left after a range are fewer
-pub range_further : (s : List ℕ) (at : ℕ) {r : RangeRead} {e low high : ℕ} → GivesRange s r (range (drop at s)) → r ≡ RangeTo e low high → length s - e < length s - at
+pub range_further : (s : List ℕ) (at : ℕ) {r : Option (ℕ × ℕ × ℕ)} {e low high : ℕ} → GivesRange s r (range (drop at s)) → r ≡ Some (e, low, high) → length s - e < length s - at
 range_further s at {e = e} g q =
     let l = left_less (subst (λ (X : Reading Range). Leaves (length (drop at s)) X) (range_good g q) (range_leaves (drop at s))) in
     omega (arith, length-drop e s, length-drop at s)
@@ -162,25 +157,25 @@ or_none true b = refl
 or_none false true = refl
 or_none false false = refl
 
-add : (s : List ℕ) (c : ℕ) (hit : Bool) (low high : ℕ) (y : SymbolRead) (X : Reading (List Range))
+add : (s : List ℕ) (c : ℕ) (hit : Bool) (low high : ℕ) (y : Option (ℕ × Bool)) (X : Reading (List Range))
     → GivesMembers s c (hit || (leb low c && leb c high)) y X → GivesMembers s c hit y (add_range (record { low = low; high = high }) X)
 unfolding in_ranges within
 add s c hit low high y malformed bad = bad
 add s c hit low high y (front rs u) good = rw (or_assoc hit (leb low c && leb c high) (in_ranges rs c)) good
 
-module _ (s : List ℕ) (at c : ℕ) (hit : Bool) {r : RangeRead} (range-read : GivesRange s r (range (drop at s))) where
-  pub members_bad : r ≡ BadRange → ReadsMembers s at c hit BadSymbol
+module _ (s : List ℕ) (at c : ℕ) (hit : Bool) {r : Option (ℕ × ℕ × ℕ)} (range-read : GivesRange s r (range (drop at s))) where
+  pub members_bad : r ≡ None → ReadsMembers s at c hit None
   unfolding members
   members_bad q zero le = absurd (omega arith)
   members_bad q (suc f) le = rw (range_bad range-read q, members) bad
 
-  module _ {e low high : ℕ} (q : r ≡ RangeTo e low high) {t : Bool} (test : t ≡ starts_with close_set (drop e s)) where
-    pub members_close : t ≡ true → ReadsMembers s at c hit (SymbolTo (e + 1) (hit || (leb low c && leb c high)))
+  module _ {e low high : ℕ} (q : r ≡ Some (e, low, high)) {t : Bool} (test : t ≡ starts_with close_set (drop e s)) where
+    pub members_close : t ≡ true → ReadsMembers s at c hit (Some (e + 1, hit || (leb low c && leb c high)))
     unfolding members in_ranges within
     members_close n zero le = absurd (omega arith)
     members_close n (suc f) le = rw (range_good range-read q, ← test, n, drop_next s e, members) (rw (← or_none hit (leb low c && leb c high)) good)
 
-    pub members_more : t ≡ false → {y : SymbolRead} → ReadsMembers s e c (hit || (leb low c && leb c high)) y → ReadsMembers s at c hit y
+    pub members_more : t ≡ false → {y : Option (ℕ × Bool)} → ReadsMembers s e c (hit || (leb low c && leb c high)) y → ReadsMembers s at c hit y
     unfolding members in_ranges within
     members_more n m zero le = absurd (omega arith)
     members_more n {y} m (suc f) le =

@@ -27,40 +27,40 @@ pub(crate) const CIRCUMFLEX: u32 = 0x5e; // ^
 
 pub(crate) const HYPHEN: u32 = 0x2d; // -
 
+#[tactic(auto, unfolding(crate::specs::Character::special))]
 pub(crate) fn is_special(x: u32) -> bool
     ensures { result ≡ special x }
 {
-    (x == DOT)
-        | (x == BACKSLASH)
-        | (x == OPEN_GROUP)
-        | (x == CLOSE_GROUP)
-        | (x == OPEN_SET)
-        | (x == CLOSE_SET)
-        | (x == BAR)
-        | (x == ASTERISK)
-        | (x == PLUS_SIGN)
-        | (x == QUESTION_MARK)
+    matches!(
+        x,
+        DOT | BACKSLASH
+            | OPEN_GROUP
+            | CLOSE_GROUP
+            | OPEN_SET
+            | CLOSE_SET
+            | BAR
+            | ASTERISK
+            | PLUS_SIGN
+            | QUESTION_MARK
+    )
 }
 
 // Whether the character stands between symbols.
+#[tactic(auto, unfolding(crate::specs::Hits::between))]
 pub(crate) fn is_between(x: u32) -> bool
     ensures { result ≡ between x }
 {
-    (x == OPEN_GROUP)
-        | (x == CLOSE_GROUP)
-        | (x == BAR)
-        | (x == ASTERISK)
-        | (x == PLUS_SIGN)
-        | (x == QUESTION_MARK)
+    matches!(
+        x,
+        OPEN_GROUP | CLOSE_GROUP | BAR | ASTERISK | PLUS_SIGN | QUESTION_MARK
+    )
 }
 
 // Whether the character x stands at an offset.
+#[tactic(auto, using(crate::proofs::Offsets::starts_past, crate::proofs::Offsets::starts_here))]
 pub(crate) fn is_at(s: &[u32], at: usize, x: u32) -> bool
     ensures means { result ≡ starts_with x (drop at s.now) }
     ensures within { result ≡ true → at < length s.now }
 {
-    if s.len() <= at {
-        return false;
-    }
-    s[at] == x
+    at < s.len() && s[at] == x
 }

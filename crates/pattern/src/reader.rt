@@ -1,15 +1,13 @@
 // The reader of a pattern: alternatives hold sequences, sequences hold items, an item may be a group of alternatives. In one pass it works out
 // the pattern's sets, and what may follow each of its symbols.
-ghost use Rattle.std.specs.Prelude.{◌≡◌, length, drop};
+ghost use Rattle.std.specs.Prelude.{◌≡◌, drop};
 ghost use Rattle.pattern.specs.Reading.{parse, symbol_item, ends, well_formed};
 ghost use Rattle.pattern.specs.Answers.{GivesPart, ReadsRepeat, ReadsAlternatives, ReadsSequence, ReadsItem, GivesPattern};
 
 use crate::character::{ASTERISK, BAR, CLOSE_GROUP, OPEN_GROUP, PLUS_SIGN, QUESTION_MARK, is_at};
-use crate::fragment::{
-    Fragment, make_alternatives, make_empty, make_none, make_optional, make_sequence, make_symbol,
-};
+use crate::fragment::Fragment;
 use crate::links::{LINKS, link};
-use crate::symbol::{SymbolRead, read_symbol};
+use crate::symbol::read_symbol;
 
 const MOST_CHARACTERS: usize = 256;
 
@@ -17,149 +15,159 @@ const MOST_SYMBOLS: usize = 60;
 
 const DEEPEST_GROUP: usize = 8;
 
-// The offset after a part of the pattern, the number of symbols up to there, and what the part does.
-#[derive(Drop)]
-pub enum PartRead {
-    BadPart,
-    PartTo(usize, usize, Fragment),
-}
-
-// What the whole pattern does.
-#[derive(Drop)]
-pub enum PatternRead {
-    BadPattern,
-    Pattern(Fragment),
+// A part of the pattern: the offset after it, the number of symbols up to there, and what the part does.
+#[derive(Clone, Copy)]
+pub struct PartRead {
+    pub end: usize,
+    pub symbols: usize,
+    pub sets: Fragment,
 }
 
 // The part before `at`, with the sign at `at` if there is one.
-fn read_repeat(s: &[u32], at: usize, k: usize, f: Fragment, links: &mut [u64]) -> PartRead
-    requires { length links.old ≡ 64 }
+#[tactic(auto, using(crate::proofs::Parts::repeat_star, crate::proofs::Parts::repeat_plus, crate::proofs::Parts::repeat_optional, crate::proofs::Parts::repeat_none))]
+fn read_repeat(s: &[u32], at: usize, k: usize, f: Fragment, links: &mut [u64; LINKS]) -> PartRead
     ensures { ReadsRepeat s.now at k f links.old links.new result }
 {
     if is_at(s, at, ASTERISK) {
         link(links, f.last, f.first);
-        return PartRead::PartTo(at + 1, k, make_optional(f));
+        return PartRead {
+            end: at + 1,
+            symbols: k,
+            sets: f.optional(),
+        };
     }
     if is_at(s, at, PLUS_SIGN) {
         link(links, f.last, f.first);
-        return PartRead::PartTo(at + 1, k, f);
+        return PartRead {
+            end: at + 1,
+            symbols: k,
+            sets: f,
+        };
     }
     if is_at(s, at, QUESTION_MARK) {
-        return PartRead::PartTo(at + 1, k, make_optional(f));
+        return PartRead {
+            end: at + 1,
+            symbols: k,
+            sets: f.optional(),
+        };
     }
-    PartRead::PartTo(at, k, f)
+    PartRead {
+        end: at,
+        symbols: k,
+        sets: f,
+    }
 }
 
+#[tactic(auto, using(crate::proofs::Offsets::ends_past, crate::proofs::Offsets::ends_here))]
 fn ends_at(s: &[u32], at: usize) -> bool
     ensures { result ≡ ends (drop at s.now) }
 {
-    if s.len() <= at {
-        return true;
-    }
-    let x = s[at];
-    (x == BAR) | (x == CLOSE_GROUP)
+    s.len() <= at || matches!(s[at], BAR | CLOSE_GROUP)
 }
 
 // The k-th symbol, with its sign.
-fn read_symbol_item(s: &[u32], at: usize, k: usize, links: &mut [u64]) -> PartRead
-    requires { length links.old ≡ 64 }
+#[tactic(auto, using(crate::proofs::Parts::symbol_full, crate::proofs::Parts::symbol_none, crate::proofs::Parts::symbol_item_rule))]
+fn read_symbol_item(s: &[u32], at: usize, k: usize, links: &mut [u64; LINKS]) -> Option<PartRead>
     ensures { GivesPart s.now links.old links.new result (symbol_item k (drop at s.now)) }
 {
     if MOST_SYMBOLS <= k {
-        return PartRead::BadPart;
+        return None;
     }
-    match read_symbol(s, at, 0) {
-        SymbolRead::BadSymbol => PartRead::BadPart,
-        SymbolRead::SymbolTo(e, _) => read_repeat(s, e, k + 1, make_symbol(k), links),
-    }
+    let (end, _) = read_symbol(s, at, 0)?;
+    Some(read_repeat(s, end, k + 1, Fragment::of_symbol(k), links))
 }
 
 // `depth`: the groups around the part; `k`: the symbols before it.
 #[cycle(read_alternatives_read_item_read_sequence)]
-fn read_alternatives(s: &[u32], at: usize, depth: usize, k: usize, links: &mut [u64]) -> PartRead
-    requires { length links.old ≡ 64 }
+fn read_alternatives(
+    s: &[u32],
+    at: usize,
+    depth: usize,
+    k: usize,
+    links: &mut [u64; LINKS],
+) -> Option<PartRead>
     ensures { ReadsAlternatives s.now at depth k links.old links.new result }
 {
     let mut i = at;
     let mut n = k;
-    let mut whole = make_none();
+    let mut whole = Fragment::NONE;
     loop {
-        match read_sequence(s, i, depth, n, links) {
-            PartRead::BadPart => return PartRead::BadPart,
-            PartRead::PartTo(e, m, f) => {
-                whole = make_alternatives(whole, f);
-                if !is_at(s, e, BAR) {
-                    return PartRead::PartTo(e, m, whole);
-                }
-                i = e + 1;
-                n = m;
-            }
+        let part = read_sequence(s, i, depth, n, links)?;
+        whole = whole.or(part.sets);
+        if !is_at(s, part.end, BAR) {
+            return Some(PartRead {
+                sets: whole,
+                ..part
+            });
         }
+        i = part.end + 1;
+        n = part.symbols;
     }
 }
 
 #[cycle(read_alternatives_read_item_read_sequence)]
-fn read_sequence(s: &[u32], at: usize, depth: usize, k: usize, links: &mut [u64]) -> PartRead
-    requires { length links.old ≡ 64 }
+fn read_sequence(
+    s: &[u32],
+    at: usize,
+    depth: usize,
+    k: usize,
+    links: &mut [u64; LINKS],
+) -> Option<PartRead>
     ensures { ReadsSequence s.now at depth k links.old links.new result }
 {
     let mut i = at;
     let mut n = k;
-    let mut whole = make_empty();
+    let mut whole = Fragment::EMPTY;
     while !ends_at(s, i) {
-        match read_item(s, i, depth, n, links) {
-            PartRead::BadPart => return PartRead::BadPart,
-            PartRead::PartTo(e, m, f) => {
-                link(links, whole.last, f.first);
-                whole = make_sequence(whole, f);
-                i = e;
-                n = m;
-            }
-        }
+        let part = read_item(s, i, depth, n, links)?;
+        link(links, whole.last, part.sets.first);
+        whole = whole.then(part.sets);
+        i = part.end;
+        n = part.symbols;
     }
-    PartRead::PartTo(i, n, whole)
+    Some(PartRead {
+        end: i,
+        symbols: n,
+        sets: whole,
+    })
 }
 
 #[cycle(read_alternatives_read_item_read_sequence)]
-fn read_item(s: &[u32], at: usize, depth: usize, k: usize, links: &mut [u64]) -> PartRead
-    requires { length links.old ≡ 64 }
+fn read_item(
+    s: &[u32],
+    at: usize,
+    depth: usize,
+    k: usize,
+    links: &mut [u64; LINKS],
+) -> Option<PartRead>
     ensures { ReadsItem s.now at depth k links.old links.new result }
 {
     if !is_at(s, at, OPEN_GROUP) {
         return read_symbol_item(s, at, k, links);
     }
     if DEEPEST_GROUP <= depth {
-        return PartRead::BadPart;
+        return None;
     }
-    match read_alternatives(s, at + 1, depth + 1, k, links) {
-        PartRead::BadPart => PartRead::BadPart,
-        PartRead::PartTo(e, m, f) => {
-            if !is_at(s, e, CLOSE_GROUP) {
-                return PartRead::BadPart;
-            }
-            read_repeat(s, e + 1, m, f, links)
-        }
+    let group = read_alternatives(s, at + 1, depth + 1, k, links)?;
+    if !is_at(s, group.end, CLOSE_GROUP) {
+        return None;
     }
+    Some(read_repeat(s, group.end + 1, group.symbols, group.sets, links))
 }
 
 // The whole pattern: its sets, and what follows each symbol.
-pub fn read_pattern(p: &[u32], links: &mut [u64]) -> PatternRead
-    requires { length links.old ≡ 64 }
+#[tactic(auto, using(crate::proofs::Parts::pattern_long, crate::proofs::Parts::pattern_bad, crate::proofs::Parts::pattern_rest, crate::proofs::Parts::pattern_whole))]
+pub fn read_pattern(p: &[u32], links: &mut [u64; LINKS]) -> Option<Fragment>
     ensures { GivesPattern links.old links.new result (parse p.now) }
 {
     if MOST_CHARACTERS < p.len() {
-        return PatternRead::BadPattern;
+        return None;
     }
-    match read_alternatives(p, 0, 0, 0, links) {
-        PartRead::BadPart => PatternRead::BadPattern,
-        PartRead::PartTo(e, _, f) => {
-            if e < p.len() {
-                PatternRead::BadPattern
-            } else {
-                PatternRead::Pattern(f)
-            }
-        }
+    let whole = read_alternatives(p, 0, 0, 0, links)?;
+    if whole.end < p.len() {
+        return None;
     }
+    Some(whole.sets)
 }
 
 // Whether a text is a pattern, within the limits.
@@ -167,8 +175,5 @@ pub fn check_pattern(p: &[u32]) -> bool
     ensures { result ≡ well_formed p.now }
 {
     let mut links = [0u64; LINKS];
-    match read_pattern(p, &mut links) {
-        PatternRead::BadPattern => false,
-        PatternRead::Pattern(_) => true,
-    }
+    read_pattern(p, &mut links).is_some()
 }

@@ -4,89 +4,61 @@ ghost use Rattle.pattern.specs.Reading.{escaped, member, range};
 ghost use Rattle.pattern.specs.Answers.{GivesMember, GivesRange, ReadsMembers};
 
 use crate::character::{BACKSLASH, CLOSE_SET, HYPHEN, is_at};
-use crate::symbol::SymbolRead;
 
-// The offset after a character of a set, and the character.
-#[derive(Drop)]
-pub enum MemberRead {
-    BadMember,
-    MemberTo(usize, u32),
-}
-
-// The offset after a character or a range, and its ends.
-#[derive(Drop)]
-pub enum RangeRead {
-    BadRange,
-    RangeTo(usize, u32, u32),
-}
-
-// The character after a backslash.
-pub(crate) fn read_escaped(s: &[u32], at: usize) -> MemberRead
+// The character after a backslash, and the offset after it.
+#[tactic(auto, using(crate::proofs::Sets::escaped_end, crate::proofs::Sets::escaped_one))]
+pub(crate) fn read_escaped(s: &[u32], at: usize) -> Option<(usize, u32)>
     ensures { GivesMember s.now result (escaped (drop at s.now)) }
 {
     if s.len() <= at {
-        return MemberRead::BadMember;
+        return None;
     }
-    MemberRead::MemberTo(at + 1, s[at])
+    Some((at + 1, s[at]))
 }
 
-pub(crate) fn read_member(s: &[u32], at: usize) -> MemberRead
+#[tactic(auto, using(crate::proofs::Sets::member_end, crate::proofs::Sets::member_escaped, crate::proofs::Sets::member_special, crate::proofs::Sets::member_plain))]
+pub(crate) fn read_member(s: &[u32], at: usize) -> Option<(usize, u32)>
     ensures { GivesMember s.now result (member (drop at s.now)) }
 {
     if s.len() <= at {
-        return MemberRead::BadMember;
+        return None;
     }
-    let x = s[at];
-    if x == BACKSLASH {
-        return read_escaped(s, at + 1);
+    match s[at] {
+        BACKSLASH => read_escaped(s, at + 1),
+        HYPHEN | CLOSE_SET => None,
+        x => Some((at + 1, x)),
     }
-    if (x == HYPHEN) | (x == CLOSE_SET) {
-        return MemberRead::BadMember;
-    }
-    MemberRead::MemberTo(at + 1, x)
 }
 
-pub(crate) fn read_range(s: &[u32], at: usize) -> RangeRead
+// A character or a range: the offset after it, and its ends.
+#[tactic(auto, using(crate::proofs::Sets::range_none, crate::proofs::Sets::range_one, crate::proofs::Sets::range_open, crate::proofs::Sets::range_reversed, crate::proofs::Sets::range_both))]
+pub(crate) fn read_range(s: &[u32], at: usize) -> Option<(usize, u32, u32)>
     ensures { GivesRange s.now result (range (drop at s.now)) }
 {
-    match read_member(s, at) {
-        MemberRead::BadMember => RangeRead::BadRange,
-        MemberRead::MemberTo(e, low) => {
-            if !is_at(s, e, HYPHEN) {
-                return RangeRead::RangeTo(e, low, low);
-            }
-            match read_member(s, e + 1) {
-                MemberRead::BadMember => RangeRead::BadRange,
-                MemberRead::MemberTo(e2, high) => {
-                    if high < low {
-                        RangeRead::BadRange
-                    } else {
-                        RangeRead::RangeTo(e2, low, high)
-                    }
-                }
-            }
-        }
+    let (middle, low) = read_member(s, at)?;
+    if !is_at(s, middle, HYPHEN) {
+        return Some((middle, low, low));
     }
+    let (end, high) = read_member(s, middle + 1)?;
+    if high < low {
+        return None;
+    }
+    Some((end, low, high))
 }
 
-// The members of a set up to its `]`: whether the character c is in them.
-pub(crate) fn read_members(s: &[u32], at: usize, c: u32) -> SymbolRead
+// The members of a set up to its `]`: the offset after it, and whether the character c is in them.
+#[tactic(auto, using(crate::proofs::Sets::members_bad, crate::proofs::Sets::members_close, crate::proofs::Sets::members_more, crate::proofs::Sets::range_further))]
+pub(crate) fn read_members(s: &[u32], at: usize, c: u32) -> Option<(usize, bool)>
     ensures { ReadsMembers s.now at c false result }
 {
     let mut i = at;
     let mut hit = false;
     loop {
-        match read_range(s, i) {
-            RangeRead::BadRange => {
-                return SymbolRead::BadSymbol;
-            }
-            RangeRead::RangeTo(e, low, high) => {
-                hit = hit | ((low <= c) & (c <= high));
-                if is_at(s, e, CLOSE_SET) {
-                    return SymbolRead::SymbolTo(e + 1, hit);
-                }
-                i = e;
-            }
+        let (end, low, high) = read_range(s, i)?;
+        hit |= (low <= c) & (c <= high);
+        if is_at(s, end, CLOSE_SET) {
+            return Some((end + 1, hit));
         }
+        i = end;
     }
 }

@@ -4,6 +4,7 @@ ghost use Rattle.base.specs.Bits.{bit};
 ghost use Rattle.pattern.specs.Links.{Without, Outside};
 
 // The least member of a set.
+#[tactic(auto, using(crate::proofs::Linking::least_in))]
 pub(crate) fn least_in(set: u64) -> usize
     requires { set ≡ 0 → ⊥ }
     ensures { (result < 64) × (bit set result ≡ true) }
@@ -20,6 +21,7 @@ pub(crate) fn without(set: u64, k: usize) -> u64
 }
 
 // The members of a set that another has not.
+#[tactic(auto, using(crate::proofs::Linking::outside_of))]
 pub(crate) fn outside(set: u64, other: u64) -> u64
     ensures { Outside set other result }
 {

@@ -13,20 +13,28 @@ ghost use Rattle.place.specs.Place.{source_bytes, spot_value, located_value, bod
 
 use base::bytes::piece;
 use base::order::Operator;
-use operand::literal_read::{LiteralRead, read_literal};
+use operand::literal_read::read_literal;
 use record::kind::{Family, ValueType};
 use record::read::{RecordAt, record_at};
+use record::walk::Record;
 use token::Token;
 use value::compare::compare_items;
 use value::item::Item;
 use value::read::{item_at, read_item};
 
-// The query, the instance, or the part of the instance that has the second number of bytes at the first.
+// A part of an instance: so many bytes from a place on.
+#[derive(Clone, Copy)]
+pub struct Part {
+    pub start: usize,
+    pub length: usize,
+}
+
+// The query, the instance, or a part of the instance.
 #[derive(Clone, Copy)]
 pub enum Source {
     Query,
     Instance,
-    Part(usize, usize),
+    Part(Part),
 }
 
 // A record.
@@ -43,24 +51,18 @@ pub struct Located {
     pub item: Item,
 }
 
-// An array of an instance: NULL, or the records in the second number of bytes at the first.
-#[derive(Drop)]
-pub enum Body {
-    Null,
-    At(usize, usize),
-}
-
 pub fn bytes_of<'a>(q: &'a [u8], i: &'a [u8], s: Source) -> &'a [u8]
     ensures { result.now ≡ source_bytes q.now i.now s }
 {
     match s {
         Source::Query => q,
         Source::Instance => i,
-        Source::Part(start, len) => piece(i, start, len),
+        Source::Part(p) => piece(i, p.start, p.length),
     }
 }
 
 // Whether the operator holds of the value in a record and another.
+#[tactic(auto, using(crate::proofs::Placing::spot_compared))]
 pub fn compare_spot<'a>(
     op: Operator,
     q: &'a [u8],
@@ -71,59 +73,50 @@ pub fn compare_spot<'a>(
 ) -> bool
     ensures { result ≡ compares op (spot_value of q.now i.now x) (located_value q.now i.now y) }
 {
-    let left = x.source;
-    let right = y.source;
-    let item = y.item;
-    let a = bytes_of(q, i, left);
-    let b = bytes_of(q, i, right);
-    compare_items(op, a, item_at(a, x.place, of), b, item)
+    let a = bytes_of(q, i, x.source);
+    let b = bytes_of(q, i, y.source);
+    compare_items(op, a, item_at(a, x.place, of), b, y.item)
 }
 
 // Whether the operator holds of the value in a record of `a` and a value of `b`.
+#[tactic(auto, using(crate::proofs::Placing::compared_in))]
 pub fn holds_in<'a>(
     op: Operator,
     a: &'a [u8],
     of: ValueType,
-    kind: usize,
-    start: usize,
-    length: usize,
+    x: Record,
     b: &'a [u8],
     y: Item,
 ) -> bool
-    ensures { result ≡ compares op (element_in of kind (part a.now start length)) (item_value b.now y) }
+    ensures { result ≡ compares op (element_in of x.kind (part a.now x.start x.length)) (item_value b.now y) }
 {
-    compare_items(op, a, read_item(a, of, kind, start, length), b, y)
+    compare_items(op, a, read_item(a, of, x.kind, x.start, x.length), b, y)
 }
 
-// The body of the array in the record at a place.
-pub fn body_at(i: &[u8], place: usize) -> Body
+// The part that has the records of the array in the record at a place; None for NULL.
+#[tactic(auto, using(crate::proofs::Placing::body_null, crate::proofs::Placing::body_stands, crate::proofs::Placing::body_absent))]
+pub fn body_at(i: &[u8], place: usize) -> Option<Part>
     ensures { result ≡ body_at i.now place }
 {
-    match record_at(i, place) {
-        RecordAt::Whole {
-            kind,
-            start,
-            length,
-            next: _,
-        } => {
-            if kind == 0 {
-                return Body::Null;
-            }
-            Body::At(start, length)
-        }
-        RecordAt::Broken => Body::Null,
-        RecordAt::End => Body::Null,
+    let RecordAt::Whole {
+        kind,
+        start,
+        length,
+        ..
+    } = record_at(i, place)
+    else {
+        return None;
+    };
+    if kind == 0 {
+        return None;
     }
+    Some(Part { start, length })
 }
 
 // The value of a literal; NULL where it can't be read.
+#[tactic(auto, using(crate::proofs::Placing::value_or_null))]
 pub fn literal_item_or_null(family: Family, q: &[u8], t: Token) -> Item
     ensures { item_value q.now result ≡ value_read (read_literal family q.now t) }
 {
-    match read_literal(family, q, t) {
-        LiteralRead::Misfit => Item::Null,
-        LiteralRead::OutOfRange => Item::Null,
-        LiteralRead::Malformed => Item::Null,
-        LiteralRead::Value(x) => x,
-    }
+    read_literal(family, q, t).unwrap_or(Item::Null)
 }

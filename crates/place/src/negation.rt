@@ -5,8 +5,5 @@ ghost use Rattle.place.specs.Negation.{reversed_if};
 pub fn reverse_if(negated: bool, b: bool) -> bool
     ensures { result ≡ reversed_if negated b }
 {
-    if negated {
-        return !b;
-    }
-    b
+    negated != b
 }

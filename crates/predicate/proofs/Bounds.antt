@@ -1,4 +1,5 @@
 -- Demand 3 for one comparison: its steps are at most one and what it reads; what it reads of an instance is at most the instance's length.
+use Rattle.std.specs.Prelude.{Option as Optional, None, Some}
 use Prim.Native.Nat.{ℕ, zero, suc, ◌+◌, ◌-◌, ◌≤◌, ◌<◌}
 use mathlib.Core.List.{List, [], ◌∷◌}
 use mathlib.Core.Bool.{Bool, true, false}
@@ -27,8 +28,7 @@ use Rattle.place.specs.Place.{Array, source_bytes, spot_value, elements_of, body
 use Rattle.place.specs.declared.Source.{Source}
 use Rattle.place.specs.declared.Source.TheVariants as source
 use Rattle.place.specs.declared.Spot.{Spot}
-use Rattle.place.specs.declared.Body.{Body}
-use Rattle.place.specs.declared.Body.TheVariants as body
+use Rattle.place.specs.declared.Part.{Part}
 use Rattle.search.specs.Search.{besides, decides, elements_seen, search_steps}
 use Rattle.arrays.specs.Arrays.{pairs_seen, array_steps}
 use Rattle.like.specs.Like.{as_text, size}
@@ -94,10 +94,10 @@ part_few : (s : List ℕ) (start len : ℕ) → length (part s start len) ≤ le
 part_few s start len = simp (length-take, length-drop) (omega arith)
 
 -- an array's elements, of any body and so of the one in a record
-pub body_few : (t : ValueType) (i : List ℕ) (x : Body) → size (body_value t i x) ≤ length i
+pub body_few : (t : ValueType) (i : List ℕ) (x : Optional Part) → size (body_value t i x) ≤ length i
 unfolding body_value size
-body_few t i body.Null = omega arith
-body_few t i (body.At start len) = omega (arith, elements_few t (part i start len), part_few i start len)
+body_few t i None = omega arith
+body_few t i (Some p) = omega (arith, elements_few t (part i p.start p.length), part_few i p.start p.length)
 
 -- a text's characters
 family_few : (f : Family) (w : ℕ) (g : Bool) (s : List ℕ) → size (as_text (some (family_value f w g s))) ≤ 1 + length s
@@ -131,7 +131,7 @@ text_few t i place = go (record_at i place) refl
 abbrev pub InInstance : Source → Type 0
 InInstance source.Query = ⊥
 InInstance source.Instance = Unit
-InInstance (source.Part start len) = Unit
+InInstance (source.Part p) = Unit
 
 pub spot_few : (t : ValueType) (q i : List ℕ) (s : Spot) → InInstance s.source → size (as_text (spot_value t q i s)) ≤ length i
 spot_few t q i s h = go s.source h
@@ -139,4 +139,4 @@ spot_few t q i s h = go s.source h
     go : (o : Source) → InInstance o → size (as_text (value_in_record t (source_bytes q i o) s.place)) ≤ length i
     go source.Query h = absurd h
     go source.Instance h = text_few t i s.place
-    go (source.Part start len) h = omega (arith, text_few t (part i start len) s.place, part_few i start len)
+    go (source.Part p) h = omega (arith, text_few t (part i p.start p.length) s.place, part_few i p.start p.length)

@@ -1,13 +1,12 @@
 -- Queries of 000 and 01, and of the points that they leave open, with what is said of each: its number (0 of one that is well-formed) and place.
-use Rattle.std.specs.Prelude.{ℕ, zero, suc, List, [], ◌∷◌, ◌++◌, take}
+use Rattle.std.specs.Prelude.{ℕ, zero, suc, List, [], ◌∷◌, ◌++◌, take, Err, Ok, Result}
 use Rattle.base.specs.Ascii.{bytes}
-use Rattle.query_text.specs.declared.query.Verdict.{Verdict}
-use Rattle.query_text.specs.declared.query.Verdict.TheVariants.{WellFormed, Refused}
 use Rattle.query_text.specs.Text.{number_of, text_verdict}
+use Rattle.syntax.specs.declared.fault.Fault.{Fault}
 
-abbrev pub told : Verdict → ℕ × ℕ
-told WellFormed = (0, 0)
-told (Refused f) = (number_of f.cause, f.place)
+abbrev pub told : Result (Unit {0}) Fault → ℕ × ℕ
+told (Ok tt) = (0, 0)
+told (Err f) = (number_of f.cause, f.place)
 
 abbrev pub answer : List ℕ → ℕ × ℕ
 answer q = told (text_verdict q)

@@ -1,5 +1,6 @@
 -- A query over two texts whose tokens correspond, up to a place in the first: where it is refused in the first before that place, it is refused in the second for the same cause
 -- at the corresponding token.
+use Rattle.std.specs.Prelude.{Err, None, Ok, Option, Result, Some}
 use Prim.Native.Nat.{ℕ, zero, suc}
 use mathlib.Core.Path.{◌≡◌, refl, sym, ap, ◌∙◌}
 use mathlib.Core.Logic.{◌⊎◌, inl, inr}
@@ -11,12 +12,8 @@ use Rattle.token.specs.declared.Punctuation.TheVariants.{Open, Close}
 use Rattle.token.specs.declared.TokenKind.{TokenKind}
 use Rattle.token.specs.declared.TokenKind.TheVariants.{End, Name, Word, Symbol}
 use Rattle.token.specs.declared.Token.{Token}
-use Rattle.terminal.specs.declared.operator.Joining.{Joining}
-use Rattle.terminal.specs.declared.operator.Joining.TheVariants.{With, NoBoolOp}
 use Rattle.terminal.specs.Terminal.{same, code, joining, opening, inside}
 use Rattle.syntax.specs.declared.comparison.Comparison.{Comparison}
-use Rattle.syntax.specs.declared.comparison.ComparisonResult.{ComparisonResult}
-use Rattle.syntax.specs.declared.comparison.ComparisonResult.TheVariants.{HasComparison, NoComparison}
 use Rattle.syntax.specs.declared.fault.Cause.{Cause}
 use Rattle.syntax.specs.declared.fault.Cause.TheVariants.{Grammar, Limit}
 use Rattle.syntax.specs.Scan.{Scan, fault, limited, skip}
@@ -26,24 +23,22 @@ use Rattle.syntax.proofs.Onward.{comparison_place, Onward, either, limited_on, c
 use Rattle.syntax.proofs.Simulation.{SimulatesTo, Meets, ComparisonOutcomes, has, no, past, joining_still, comparison_outcomes}
 use Rattle.query_text.specs.declared.join.Join.{Join}
 use Rattle.query_text.specs.declared.join.Join.TheVariants.{Last, Outer}
-use Rattle.query_text.specs.declared.join.JoinResult.{JoinResult}
-use Rattle.query_text.specs.declared.join.JoinResult.TheVariants.{HasJoin, NoJoin}
-use Rattle.query_text.specs.declared.query.NextResult.{NextResult}
-use Rattle.query_text.specs.declared.query.NextResult.TheVariants.{HasNext, NoNext}
 use Rattle.query_text.specs.Query.{at_end, open_group, outer_by, after_group, outer, join_by, join_after, next_of, next_by, next_comparison, only, Query, bad, good, before, last_join, query_from, start_at}
+use Rattle.syntax.specs.declared.fault.Fault.{Fault}
+use Rattle.terminal.specs.declared.operator.BoolOp.{BoolOp}
 
 -- the query that starts with a token
 abbrev pub query_at : Scan → Token → Query
 query_at s t = query_from 64 s (start_at s t).grouped (start_at s t).token
 
 -- ---- no reader goes back
-abbrev join_place : JoinResult → ℕ
-join_place (HasJoin j t) = t.start
-join_place (NoJoin x) = x
+abbrev join_place : Result (Join × Token) ℕ → ℕ
+join_place (Ok (j, t)) = t.start
+join_place (Err x) = x
 
-abbrev next_place : NextResult → ℕ
-next_place (HasNext c j t) = t.start
-next_place (NoNext f) = f.place
+abbrev next_place : Result (Comparison × Join × Token) Fault → ℕ
+next_place (Ok (c, j, t)) = t.start
+next_place (Err f) = f.place
 
 -- a query that is refused past the place
 abbrev PastQuery : (ℕ → Type 0) → Query → Type 0
@@ -51,8 +46,8 @@ PastQuery Past (bad f) = Past f.place
 PastQuery Past (good l) = Unit
 
 -- the query from what was read of its next comparison on
-abbrev on_from : ℕ → Scan → Bool → NextResult → Query
-on_from n s g x = elim x [ NoNext f ↦ bad f | HasNext c j u ↦ elim (last_join j) [ true ↦ good (only c) | false ↦ before c j (query_from n s g u) ] ]
+abbrev on_from : ℕ → Scan → Bool → Result (Comparison × Join × Token) Fault → Query
+on_from n s g x = elim x [ Err f ↦ bad f | Ok (c, j, u) ↦ elim (last_join j) [ true ↦ good (only c) | false ↦ before c j (query_from n s g u) ] ]
 
 module _ {s : Scan} {Past : ℕ → Type 0} (O : Onward s Past) where
   open_on : (j : Join) (t : Token) → Past t.start → Past (join_place (open_group s j t))
@@ -67,27 +62,27 @@ module _ {s : Scan} {Past : ℕ → Type 0} (O : Onward s Past) where
   unfolding after_group outer_by
   after_group_on t f = go (joining t)
     where
-      go : (k : Joining) → Past (join_place (outer_by s t k))
-      go (With o) = open_on (Outer o) (s.next t) (O.on t f)
-      go NoBoolOp = end_on t f
+      go : (k : Option BoolOp) → Past (join_place (outer_by s t k))
+      go (Some o) = open_on (Outer o) (s.next t) (O.on t f)
+      go None = end_on t f
 
   join_on : (g : Bool) (t : Token) → Past t.start → Past (join_place (join_after s g t))
   unfolding join_after join_by outer
   join_on g t f = go (joining t)
     where
-      go : (k : Joining) → Past (join_place (join_by s g t k))
-      go (With o) = O.on t f
-      go NoBoolOp = either O join_place g _ _ (either O join_place (same t (Symbol Close)) _ _ (after_group_on (s.next t) (O.on t f)) f) (end_on t f)
+      go : (k : Option BoolOp) → Past (join_place (join_by s g t k))
+      go (Some o) = O.on t f
+      go None = either O join_place g _ _ (either O join_place (same t (Symbol Close)) _ _ (after_group_on (s.next t) (O.on t f)) f) (end_on t f)
 
-  next_of_on : (c : Comparison) (x : JoinResult) → Past (join_place x) → Past (next_place (next_of c x))
+  next_of_on : (c : Comparison) (x : Result (Join × Token) ℕ) → Past (join_place x) → Past (next_place (next_of c x))
   unfolding next_of
-  next_of_on c (HasJoin j t) f = f
-  next_of_on c (NoJoin p) f = f
+  next_of_on c (Ok (j, t)) f = f
+  next_of_on c (Err p) f = f
 
-  next_by_on : (g : Bool) (x : ComparisonResult) → Past (comparison_place x) → Past (next_place (next_by s g x))
+  next_by_on : (g : Bool) (x : Result (Comparison × Token) Fault) → Past (comparison_place x) → Past (next_place (next_by s g x))
   unfolding next_by
-  next_by_on g (HasComparison c t) f = next_of_on c (join_after s g t) (join_on g t f)
-  next_by_on g (NoComparison x) f = f
+  next_by_on g (Ok (c, t)) f = next_of_on c (join_after s g t) (join_on g t f)
+  next_by_on g (Err x) f = f
 
   next_on : (g : Bool) (t : Token) → Past t.start → Past (next_place (next_comparison s g t))
   unfolding next_comparison
@@ -98,9 +93,9 @@ module _ {s : Scan} {Past : ℕ → Type 0} (O : Onward s Past) where
   before_on c j (bad f) h = h
   before_on c j (good l) h = tt
 
-  on_from_law : (n : ℕ) (g : Bool) → ((t : Token) → Past t.start → PastQuery Past (query_from n s g t)) → (x : NextResult) → Past (next_place x) → PastQuery Past (on_from n s g x)
-  on_from_law n g again (NoNext x) f = f
-  on_from_law n g again (HasNext c j t) f = go (last_join j)
+  on_from_law : (n : ℕ) (g : Bool) → ((t : Token) → Past t.start → PastQuery Past (query_from n s g t)) → (x : Result (Comparison × Join × Token) Fault) → Past (next_place x) → PastQuery Past (on_from n s g x)
+  on_from_law n g again (Err x) f = f
+  on_from_law n g again (Ok (c, j, t)) f = go (last_join j)
     where
       go : (b : Bool) → PastQuery Past (elim b [ true ↦ good (only c) | false ↦ before c j (query_from n s g t) ])
       go true = tt
@@ -120,15 +115,15 @@ pub record Corresponds (s z : Scan) (R : Token → Token → Type 0) (Past : ℕ
   pub onward : Onward s Past
 
 module _ (s z : Scan) (R : Token → Token → Type 0) (Past : ℕ → Type 0) where
-  data JoinOutcomes : JoinResult → JoinResult → Type 0 where
-    has_join : {j : Join} {t u : Token} → Meets s z R Past t u → JoinOutcomes (HasJoin j t) (HasJoin j u)
-    no_join : (t u : Token) → R t u → JoinOutcomes (NoJoin t.start) (NoJoin u.start)
-    past_join : {x y : JoinResult} → Past (join_place x) → JoinOutcomes x y
+  data JoinOutcomes : Result (Join × Token) ℕ → Result (Join × Token) ℕ → Type 0 where
+    has_join : {j : Join} {t u : Token} → Meets s z R Past t u → JoinOutcomes (Ok (j, t)) (Ok (j, u))
+    no_join : (t u : Token) → R t u → JoinOutcomes (Err t.start) (Err u.start)
+    past_join : {x y : Result (Join × Token) ℕ} → Past (join_place x) → JoinOutcomes x y
 
-  data NextOutcomes : NextResult → NextResult → Type 0 where
-    has_next : {c d : Comparison} {j : Join} {t u : Token} → Meets s z R Past t u → NextOutcomes (HasNext c j t) (HasNext d j u)
-    no_next : (k : Cause) (t u : Token) → R t u → NextOutcomes (NoNext (fault k t.start)) (NoNext (fault k u.start))
-    past_next : {x y : NextResult} → Past (next_place x) → NextOutcomes x y
+  data NextOutcomes : Result (Comparison × Join × Token) Fault → Result (Comparison × Join × Token) Fault → Type 0 where
+    has_next : {c d : Comparison} {j : Join} {t u : Token} → Meets s z R Past t u → NextOutcomes (Ok (c, j, t)) (Ok (d, j, u))
+    no_next : (k : Cause) (t u : Token) → R t u → NextOutcomes (Err (fault k t.start)) (Err (fault k u.start))
+    past_next : {x y : Result (Comparison × Join × Token) Fault} → Past (next_place x) → NextOutcomes x y
 
   -- nothing is said of what isn't refused in the first
   pub data QueryOutcomes : Query → Query → Type 0 where
@@ -166,7 +161,7 @@ module _ {s z : Scan} {R : Token → Token → Type 0} {Past : ℕ → Type 0} (
   unfolding at_end
   end_alike {t} {u} r = rw (same_still r End) (go (same u End))
     where
-      go : (b : Bool) → JoinOutcomes s z R Past (pick b (HasJoin Last t) (NoJoin t.start)) (pick b (HasJoin Last u) (NoJoin u.start))
+      go : (b : Bool) → JoinOutcomes s z R Past (pick b (Ok (Last, t)) (Err t.start)) (pick b (Ok (Last, u)) (Err u.start))
       go true = has_join (inl r)
       go false = no_join t u r
 
@@ -175,7 +170,7 @@ module _ {s z : Scan} {R : Token → Token → Type 0} {Past : ℕ → Type 0} (
   open_alike j {t} {u} (inr f) = past_join (open_on O j t f)
   open_alike j {t} {u} (inl r) = rw (same_still r (Symbol Open)) (go (same u (Symbol Open)))
     where
-      go : (b : Bool) → JoinOutcomes s z R Past (pick b (HasJoin j (s.next t)) (NoJoin t.start)) (pick b (HasJoin j (z.next u)) (NoJoin u.start))
+      go : (b : Bool) → JoinOutcomes s z R Past (pick b (Ok (j, s.next t)) (Err t.start)) (pick b (Ok (j, z.next u)) (Err u.start))
       go true = has_join (C.steps t u r)
       go false = no_join t u r
 
@@ -184,15 +179,15 @@ module _ {s z : Scan} {R : Token → Token → Type 0} {Past : ℕ → Type 0} (
   after_group_alike {t} {u} (inr f) = past_join (after_group_on O t f)
   after_group_alike {t} {u} (inl r) = rw (joining_still simulates.tests r) (go (joining u))
     where
-      go : (k : Joining) → JoinOutcomes s z R Past (outer_by s t k) (outer_by z u k)
-      go (With o) = open_alike (Outer o) (C.steps t u r)
-      go NoBoolOp = end_alike r
+      go : (k : Option BoolOp) → JoinOutcomes s z R Past (outer_by s t k) (outer_by z u k)
+      go (Some o) = open_alike (Outer o) (C.steps t u r)
+      go None = end_alike r
 
   outer_alike : {t u : Token} → R t u → JoinOutcomes s z R Past (outer s t) (outer z u)
   unfolding outer
   outer_alike {t} {u} r = rw (same_still r (Symbol Close)) (go (same u (Symbol Close)))
     where
-      go : (b : Bool) → JoinOutcomes s z R Past (pick b (after_group s (s.next t)) (NoJoin t.start)) (pick b (after_group z (z.next u)) (NoJoin u.start))
+      go : (b : Bool) → JoinOutcomes s z R Past (pick b (after_group s (s.next t)) (Err t.start)) (pick b (after_group z (z.next u)) (Err u.start))
       go true = after_group_alike (C.steps t u r)
       go false = no_join t u r
 
@@ -201,23 +196,23 @@ module _ {s z : Scan} {R : Token → Token → Type 0} {Past : ℕ → Type 0} (
   join_alike g {t} {u} (inr f) = past_join (join_on O g t f)
   join_alike g {t} {u} (inl r) = rw (joining_still simulates.tests r) (go g (joining u))
     where
-      go : (b : Bool) (k : Joining) → JoinOutcomes s z R Past (join_by s b t k) (join_by z b u k)
-      go b (With o) = has_join (C.steps t u r)
-      go true NoBoolOp = outer_alike r
-      go false NoBoolOp = end_alike r
+      go : (b : Bool) (k : Option BoolOp) → JoinOutcomes s z R Past (join_by s b t k) (join_by z b u k)
+      go b (Some o) = has_join (C.steps t u r)
+      go true None = outer_alike r
+      go false None = end_alike r
 
   -- ---- a comparison with what follows it
   next_alike : (g : Bool) {t u : Token} → Meets s z R Past t u → NextOutcomes s z R Past (next_comparison s g t) (next_comparison z g u)
   unfolding next_comparison next_by next_of
   next_alike g {t} {u} m = go (property_comp s t) (property_comp z u) (comparison_outcomes simulates enough other-enough m)
     where
-      then : (c d : Comparison) (x y : JoinResult) → JoinOutcomes s z R Past x y → NextOutcomes s z R Past (next_of c x) (next_of d y)
+      then : (c d : Comparison) (x y : Result (Join × Token) ℕ) → JoinOutcomes s z R Past x y → NextOutcomes s z R Past (next_of c x) (next_of d y)
       then c d x y (has_join k) = has_next k
       then c d x y (no_join v w r) = no_next Grammar v w r
       then c d x y (past_join f) = past_next (next_of_on O c x f)
 
-      go : (x y : ComparisonResult) → ComparisonOutcomes s z R Past x y → NextOutcomes s z R Past (next_by s g x) (next_by z g y)
-      go (HasComparison c v) (HasComparison d w) (has h k) = then c d (join_after s g v) (join_after z g w) (join_alike g k)
+      go : (x y : Result (Comparison × Token) Fault) → ComparisonOutcomes s z R Past x y → NextOutcomes s z R Past (next_by s g x) (next_by z g y)
+      go (Ok (c, v)) (Ok (d, w)) (has h k) = then c d (join_after s g v) (join_after z g w) (join_alike g k)
       go x y (no k v w r) = no_next k v w r
       go x y (past f) = past_next (next_by_on O g x f)
 
@@ -237,9 +232,9 @@ module _ {s z : Scan} {R : Token → Token → Type 0} {Past : ℕ → Type 0} (
       go false = both_refuse Grammar t u r
   from_alike (suc n) g {t} {u} m = go (next_comparison s g t) (next_comparison z g u) (next_alike g m) (λ v w k. from_alike n g k)
     where
-      go : (x y : NextResult) → NextOutcomes s z R Past x y → ((v w : Token) → Meets s z R Past v w → QueryOutcomes s z R Past (query_from n s g v) (query_from n z g w))
+      go : (x y : Result (Comparison × Join × Token) Fault) → NextOutcomes s z R Past x y → ((v w : Token) → Meets s z R Past v w → QueryOutcomes s z R Past (query_from n s g v) (query_from n z g w))
           → QueryOutcomes s z R Past (on_from n s g x) (on_from n z g y)
-      go (HasNext c j v) (HasNext d j' w) (has_next k) again = by (last_join j)
+      go (Ok (c, j, v)) (Ok (d, j', w)) (has_next k) again = by (last_join j)
         where
           by : (b : Bool) → QueryOutcomes s z R Past (elim b [ true ↦ good (only c) | false ↦ before c j (query_from n s g v) ]) (elim b [ true ↦ good (only d) | false ↦ before d j (query_from n z g w) ])
           by true = past_query tt

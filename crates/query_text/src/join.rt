@@ -1,10 +1,11 @@
 // What follows a comparison.
 ghost use Rattle.std.specs.Prelude.{◌≡◌};
 ghost use Rattle.syntax.specs.Scan.{scan};
-ghost use Rattle.query_text.specs.Query.{outer, join_after, last_join};
+ghost use Rattle.query_text.specs.Query.{at_end, outer, join_after, last_join};
 
-use terminal::operator::{BoolOp, Joining};
-use token::{Punctuation, Token, TokenKind};
+use terminal::kind::is_kind;
+use terminal::operator::{BoolOp, joining_of};
+use token::{Punctuation, Token, TokenKind, token_after};
 
 // The end, bool-op inside an fql-expr, or ")" bool-op "(".
 #[derive(Clone, Copy)]
@@ -14,64 +15,48 @@ pub enum Join {
     Outer(BoolOp),
 }
 
-#[derive(Drop)]
-pub enum JoinResult {
-    HasJoin(Join, Token),
-    NoJoin(usize),
+#[tactic(auto, unfolding(crate::specs::Query::at_end))]
+fn read_end(t: Token) -> Result<(Join, Token), usize>
+    ensures { result ≡ at_end t }
+{
+    if !is_kind(t, TokenKind::End) {
+        return Err(t.start);
+    }
+    Ok((Join::Last, t))
 }
 
 // ")" and the end, or ")" bool-op "("
-fn read_outer(q: &[u8], t: Token) -> JoinResult
+#[tactic(auto, unfolding(crate::specs::Query::outer, crate::specs::Query::after_group, crate::specs::Query::outer_by, crate::specs::Query::open_group))]
+fn read_outer(q: &[u8], t: Token) -> Result<(Join, Token), usize>
     ensures { result ≡ outer (scan q.now) t }
 {
-    if !terminal::kind::is_kind(t, TokenKind::Symbol(Punctuation::Close)) {
-        return JoinResult::NoJoin(t.start);
+    if !is_kind(t, TokenKind::Symbol(Punctuation::Close)) {
+        return Err(t.start);
     }
-    let u = token::token_after(q, t);
-    match terminal::operator::joining_of(u) {
-        Joining::With(o) => {
-            let v = token::token_after(q, u);
-            if terminal::kind::is_kind(v, TokenKind::Symbol(Punctuation::Open)) {
-                let w = token::token_after(q, v);
-                return JoinResult::HasJoin(Join::Outer(o), w);
-            }
-            JoinResult::NoJoin(v.start)
-        }
-        Joining::NoBoolOp => {
-            if terminal::kind::is_kind(u, TokenKind::End) {
-                return JoinResult::HasJoin(Join::Last, u);
-            }
-            JoinResult::NoJoin(u.start)
-        }
+    let u = token_after(q, t);
+    let Some(o) = joining_of(u) else {
+        return read_end(u);
+    };
+    let v = token_after(q, u);
+    if !is_kind(v, TokenKind::Symbol(Punctuation::Open)) {
+        return Err(v.start);
     }
+    Ok((Join::Outer(o), token_after(q, v)))
 }
 
-pub(crate) fn read_join(q: &[u8], grouped: bool, t: Token) -> JoinResult
+#[tactic(auto, unfolding(crate::specs::Query::join_after, crate::specs::Query::join_by))]
+pub(crate) fn read_join(q: &[u8], grouped: bool, t: Token) -> Result<(Join, Token), usize>
     ensures { result ≡ join_after (scan q.now) grouped t }
 {
-    match terminal::operator::joining_of(t) {
-        Joining::With(o) => {
-            let u = token::token_after(q, t);
-            JoinResult::HasJoin(Join::Inner(o), u)
-        }
-        Joining::NoBoolOp => {
-            if grouped {
-                return read_outer(q, t);
-            }
-            if terminal::kind::is_kind(t, TokenKind::End) {
-                return JoinResult::HasJoin(Join::Last, t);
-            }
-            JoinResult::NoJoin(t.start)
-        }
+    match joining_of(t) {
+        Some(o) => Ok((Join::Inner(o), token_after(q, t))),
+        None if grouped => read_outer(q, t),
+        None => read_end(t),
     }
 }
 
 pub fn is_last(j: Join) -> bool
     ensures { result ≡ last_join j }
 {
-    match j {
-        Join::Last => true,
-        Join::Inner(_) => false,
-        Join::Outer(_) => false,
-    }
+    matches!(j, Join::Last)
 }

@@ -2,8 +2,8 @@
 ghost use Rattle.std.specs.Prelude.{◌≡◌};
 ghost use Rattle.query_text.specs.Text.{number_of, text_verdict};
 
-use crate::query::{Verdict, read_query};
-use encoding::text::Utf8;
+use crate::query::read_query;
+use encoding::text::check_utf8;
 use syntax::fault::{Cause, Fault};
 
 // 01's number of a refusal.
@@ -18,20 +18,19 @@ pub fn number_of(cause: Cause) -> usize
     }
 }
 
-pub fn check_text(q: &[u8]) -> Verdict
+#[tactic(auto, unfolding(crate::specs::Text::text_verdict, crate::specs::Text::encoded_verdict))]
+pub fn check_text(q: &[u8]) -> Result<(), Fault>
     ensures { result ≡ text_verdict q.now }
 {
     if 4096 < q.len() {
-        return Verdict::Refused(Fault {
+        return Err(Fault {
             cause: Cause::Length,
             place: 0,
         });
     }
-    match encoding::text::check_utf8(q) {
-        Utf8::IllFormed(place) => Verdict::Refused(Fault {
-            cause: Cause::Encoding,
-            place,
-        }),
-        Utf8::WellFormed => read_query(q),
-    }
+    check_utf8(q).map_err(|place| Fault {
+        cause: Cause::Encoding,
+        place,
+    })?;
+    read_query(q)
 }

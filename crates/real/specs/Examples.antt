@@ -1,5 +1,5 @@
 -- Worked reals: literals and what is kept of them, bytes and their values, and comparisons of patterns of 64 bits.
-use Rattle.std.specs.Prelude.{◌≡◌, ℕ, Bool, true, false, List, [], ◌∷◌, ℤ, pos, negsuc, from_bits, Float}
+use Rattle.std.specs.Prelude.{◌≡◌, ℕ, Bool, true, false, List, [], ◌∷◌, ℤ, pos, negsuc, from_bits, Float, Option, Some, None}
 use Rattle.std.specs.Float.{nan, inf, fin, binary64}
 use Rattle.base.specs.Vectors.{results, expected}
 use Rattle.base.specs.Order.{holds}
@@ -8,23 +8,22 @@ use Rattle.base.specs.declared.order.Operator.TheVariants.{Equal, Unequal, Less,
 use Rattle.real.specs.Real.{exponent_of, real_of}
 use Rattle.real.specs.Value.{real32_of, real64_of}
 use Rattle.real.specs.Order.{order_of_reals}
-use Rattle.real.specs.declared.Ranged.{Ranged}
-use Rattle.real.specs.declared.Ranged.TheVariants.{InRange, OutOfRange}
+use Rattle.real.specs.declared.Real.{Real}
 
 -- a literal's sign, its digits without the point, its exponent's sign and size, and the number of digits after the point
 abbrev pub Written : Type 0
 Written = Bool × ℕ × Bool × ℕ × ℕ
 
 -- kept with e and the pattern of its value
-abbrev pub accepted : Bool → ℕ → Bool → ℕ → ℕ → ℤ → ℕ → Written × Ranged
-accepted n d b x f e bits = ((n, d, b, x, f), InRange (record { negative = n; digits = d; exponent = e; value = from_bits binary64 bits }))
+abbrev pub accepted : Bool → ℕ → Bool → ℕ → ℕ → ℤ → ℕ → Written × Option Real
+accepted n d b x f e bits = ((n, d, b, x, f), Some (record { negative = n; digits = d; exponent = e; value = from_bits binary64 bits }))
 
-abbrev pub refused : Bool → ℕ → Bool → ℕ → ℕ → Written × Ranged
-refused n d b x f = ((n, d, b, x, f), OutOfRange)
+abbrev pub refused : Bool → ℕ → Bool → ℕ → ℕ → Written × Option Real
+refused n d b x f = ((n, d, b, x, f), None)
 
 -- .5 · .15 · −123456789012345.E22 · −.0 · 1.0E22 · 1.0E23 · 1.E-22 · 5.E-0 · 999999999999999.
 -- 1.000000000000000 · 1.0E-22 · 0.E23 · .0E-22 · 0.0E400
-abbrev pub literals : List (Written × Ranged)
+abbrev pub literals : List (Written × Option Real)
 literals =
     accepted false 5 false 0 1 (negsuc 0) 0x3fe0000000000000
     ∷ accepted false 15 false 0 2 (negsuc 1) 0x3fc3333333333333
@@ -42,7 +41,7 @@ literals =
     ∷ refused false 0 false 400 1
     ∷ []
 
-abbrev pub kept : Written → Ranged
+abbrev pub kept : Written → Option Real
 kept w = real_of w.0 w.1 (exponent_of w.2 w.3 w.4)
 
 abbrev pub AllKept : Type 0

@@ -1,13 +1,11 @@
 -- Real literals. 01 "Query text": "A real literal is kept with its sign, digits, exponent and value: its digits without the point make D below 10^15,
 -- its exponent less the digits after the point makes e from −22 to 22, and the value is D × 10^e by one multiplication or one division of exactly held
 -- real64 numbers."
-use Rattle.std.specs.Prelude.{ℕ, suc, ◌^◌, Bool, ◌&&◌, ℤ, pos, negsuc, ◌-ℤ◌, neg_ℤ, int_le, nat_lt, Float}
+use Rattle.std.specs.Prelude.{ℕ, suc, ◌^◌, Bool, ◌&&◌, ℤ, pos, negsuc, ◌-ℤ◌, neg_ℤ, int_le, nat_lt, Float, Option, Some, None}
 use Rattle.std.specs.Float.{binary64}
 use Rattle.std.specs.Float.Ieee.{of_int, mul, div, neg}
 use Rattle.base.specs.Pick.{pick}
 use Rattle.real.specs.declared.Real.{Real}
-use Rattle.real.specs.declared.Ranged.{Ranged}
-use Rattle.real.specs.declared.Ranged.TheVariants.{InRange, OutOfRange}
 
 -- e: the exponent, which has its own sign, less the number of digits after the point
 abbrev pub exponent_of : Bool → ℕ → ℕ → ℤ
@@ -34,5 +32,5 @@ real_with negative d e = kept_with negative d e (magnitude d e)
 abbrev pub in_range : ℕ → ℤ → Bool
 in_range d e = nat_lt d (10 ^ 15) && (int_le (negsuc 21) e && int_le e (pos 22))
 
-unfoldable pub real_of : Bool → ℕ → ℤ → Ranged
-real_of negative d e = pick (in_range d e) (InRange (real_with negative d e)) OutOfRange
+unfoldable pub real_of : Bool → ℕ → ℤ → Option Real
+real_of negative d e = pick (in_range d e) (Some (real_with negative d e)) None

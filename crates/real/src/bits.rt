@@ -8,6 +8,7 @@ ghost use Rattle.real.specs.Value.{real32_of, real64_of};
 use base::bytes::piece;
 use base::integer::unsigned_in;
 
+// One for each format: a generic function would take its limits, its `from_bits` and its format one by one.
 fn f64_of(n: u64) -> f64
     ensures { result ≡ Ieee.of_bits binary64 n }
 {

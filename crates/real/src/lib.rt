@@ -15,9 +15,3 @@ pub struct Real {
     pub exponent: i32,
     pub value: f64,
 }
-
-#[derive(Drop)]
-pub enum Ranged {
-    InRange(Real),
-    OutOfRange,
-}

@@ -2,9 +2,9 @@
 ghost use Rattle.std.specs.Prelude.{◌≡◌, ◌^◌, ◌<◌, ◌≤◌, Bool, pos, neg_ℤ};
 ghost use Rattle.real.specs.Real.{signed, kept_with, real_with, real_of, exponent_of};
 
+use crate::Real;
 use crate::powers::power_of_ten;
 use crate::scale::{Scale, scale_of};
-use crate::{Ranged, Real};
 
 fn add_sign(negative: bool, x: f64) -> f64
     ensures { result ≡ signed negative x }
@@ -24,6 +24,7 @@ fn keep(negative: bool, digits: u64, exponent: i32, magnitude: f64) -> Real
     }
 }
 
+// Beside `divide`: one function with the operation passed to it would say no less.
 fn multiply(negative: bool, digits: u64, k: usize) -> Real
     requires { (digits < 10 ^ 15) × (k < 23) }
     ensures { result ≡ real_with negative digits (pos k) }
@@ -45,15 +46,15 @@ fn divide(negative: bool, digits: u64, k: usize) -> Real
 
 // The literal with the sign `negative`, the digits `digits` read without the point, `after` of them behind it, and the exponent `size`, which is negative
 // where `below` says so. A reader of long literals may clip: any `digits` from 10^15 on and any `size` above 22 + `after` are out of range alike.
-pub fn make_real(negative: bool, digits: u64, below: bool, size: u64, after: u64) -> Ranged
+pub fn make_real(negative: bool, digits: u64, below: bool, size: u64, after: u64) -> Option<Real>
     ensures { result ≡ real_of negative digits (exponent_of below size after) }
 {
     if 1000000000000000 <= digits {
-        return Ranged::OutOfRange;
+        return None;
     }
-    match scale_of(below, size, after) {
-        Scale::Up(k) => Ranged::InRange(multiply(negative, digits, k)),
-        Scale::Down(k) => Ranged::InRange(divide(negative, digits, k)),
-        Scale::Beyond => Ranged::OutOfRange,
+    let scale = scale_of(below, size, after)?;
+    match scale {
+        Scale::Up(k) => Some(multiply(negative, digits, k)),
+        Scale::Down(k) => Some(divide(negative, digits, k)),
     }
 }

@@ -3,18 +3,15 @@ ghost use Rattle.std.specs.Prelude.{◌≡◌};
 ghost use Rattle.real.specs.Order.{order_of_reals};
 
 use base::order::Order;
+use std::cmp::Ordering;
 
 pub fn order_of_reals(a: f64, b: f64) -> Order
     ensures { result ≡ order_of_reals a b }
 {
-    if a < b {
-        return Order::Before;
+    match a.partial_cmp(&b) {
+        Some(Ordering::Less) => Order::Before,
+        Some(Ordering::Equal) => Order::Same,
+        Some(Ordering::Greater) => Order::After,
+        None => Order::Undecided,
     }
-    if a == b {
-        return Order::Same;
-    }
-    if b < a {
-        return Order::After;
-    }
-    Order::Undecided
 }

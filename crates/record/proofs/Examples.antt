@@ -22,7 +22,7 @@ unfolding LittleEndian.unsigned Walk.walk Walk.from Record.record_at Record.reco
 slices_read = refl
 
 names_judged : results valid_name names ≡ expected names
-unfolding Range.within Name.letter Name.name_byte Name.all Name.valid_name
+unfolding Range.within Name.letter Name.name_byte Name.valid_name
 names_judged = refl
 
 pairs_compared : results (λ (p : List ℕ × List ℕ). same_name p.0 p.1) pairs ≡ expected pairs

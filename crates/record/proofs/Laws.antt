@@ -1,24 +1,24 @@
 -- One law for each way out of the functions of src/.
 use Prim.Native.Nat.{ℕ, suc, ◌+◌, ◌-◌, ◌≤◌, ◌<◌}
 use mathlib.Core.List.{List, [], ◌∷◌, ◌++◌}
-use mathlib.Core.Bool.{Bool, true, false, not, ◌&&◌, ◌||◌, or_assoc, or-false}
+use mathlib.Core.Bool.{Bool, true, false, not, cond, ◌&&◌, ◌||◌, or_assoc, or-false}
 use mathlib.Core.Path.{◌≡◌, refl, sym, ap, ◌∙◌}
 use native.Mathlib.Omega.{arith}
-use lib.ListN.{length, get_or, take, drop, length-take, drop_of_length-le}
+use lib.ListN.{length, get_or, take, length-take}
 use lib.Seq.{take_all, take-suc, length-take-le}
-use lib.Dec.{eqb}
-use borrow.Author.Tests.{le-leb, lt-leb, eqb-true, eqb-false, not-true, not-false}
+use lib.Dec.{eqb, ltb, leb}
+use borrow.Author.Tests.{le-leb, lt-leb, ltb-true, ltb-false, eqb-true, eqb-false, not-true, not-false}
+use Rattle.std.specs.List.{list_all}
+use Rattle.std.specs.Char.{is_ascii_digit, is_ascii_alphabetic, to_ascii_lowercase}
 use Rattle.base.specs.Pick.{pick}
 use Rattle.base.specs.Part.{part}
 use Rattle.base.specs.Range.{within}
 use Rattle.base.specs.LittleEndian.{unsigned}
-use Rattle.base.proofs.Lists.{left_next}
 use Rattle.base.proofs.Says.{and_false}
-use Rattle.base.proofs.Digits.{within_high}
 use Rattle.record.specs.declared.read.RecordAt.{RecordAt}
 use Rattle.record.specs.declared.read.RecordAt.TheVariants.{Whole, Broken, End}
 use Rattle.record.specs.Record.{number_at, record_at}
-use Rattle.record.specs.Name.{letter, name_byte, all, valid_name, lower, same_name}
+use Rattle.record.specs.Name.{letter, name_byte, valid_name, lower, same_name}
 use Rattle.base.specs.Ascii.{bytes}
 use Rattle.record.specs.Reserved.{reserved_words, among, is_reserved}
 use Rattle.record.proofs.Records.{at_end_law, at_broken, at_whole}
@@ -47,20 +47,23 @@ module _ (s : List ℕ) (at : ℕ) where
       pub record_whole : at + 4 + n ≤ length s → (k : ℕ) → k ≡ number_at s (at + 2) → Whole k (at + 4) n (at + 4 + n) ≡ record_at s at
       record_whole f k d = rw (d, e) (sym (at_whole s at (omega arith)))
 
--- bytes of names, one after the other
-module _ (s : List ℕ) (i : ℕ) (w : Bool) (inv : w ≡ all name_byte (drop i s)) where
-  pub all_end : length s ≤ i → true ≡ w
-  unfolding all
-  all_end h = sym (inv ∙ ap (all name_byte) (drop_of_length-le s h))
+-- ---- the classes of bytes that the formats name, by those of ASCII
+pub letter_law : (b : ℕ) → (is_ascii_alphabetic b || eqb b 95) ≡ letter b
+unfolding letter within
+letter_law b = refl
 
-  module _ (h : i < length s) (x : Bool) (e : x ≡ name_byte (get_or s i 0)) where
-    pub all_not : not x ≡ true → false ≡ w
-    unfolding all
-    all_not f = sym (inv ∙ rw (left_next s i h, ← e, not-true x f))
+pub name_byte_law : (b : ℕ) → (letter b || is_ascii_digit b) ≡ name_byte b
+unfolding name_byte within
+name_byte_law b = refl
 
-    pub all_next : not x ≡ false → w ≡ all name_byte (drop (i + 1) s)
-    unfolding all
-    all_next f = inv ∙ rw (left_next s i h, ← e, not-false x f)
+pub lower_law : (b : ℕ) → to_ascii_lowercase b ≡ lower b
+unfolding lower within
+lower_law b = go (ltb b 65) refl (ltb b 91) refl
+  where
+    go : (x : Bool) → ltb b 65 ≡ x → (y : Bool) → ltb b 91 ≡ y → cond x b (cond y (b + 32) b) ≡ pick (leb 65 b && leb b 90) (b + 32) b
+    go true e y f = rw (lt-leb 65 b (ltb-true b 65 e))
+    go false e true f = rw (le-leb 65 b (ltb-false b 65 e), le-leb b 90 (let g = ltb-true b 91 f in omega arith))
+    go false e false f = rw (le-leb 65 b (ltb-false b 65 e), lt-leb b 90 (let g = ltb-false b 91 f in omega arith))
 
 module _ (s : List ℕ) where
   pub name_empty : length s < 1 → false ≡ valid_name s
@@ -71,22 +74,14 @@ module _ (s : List ℕ) where
   unfolding valid_name within
   name_long h = rw (lt-leb (length s) 64 h, and_false)
 
-  pub name_bytes : 1 ≤ length s → length s ≤ 64 → (x y : Bool) → x ≡ letter (get_or s 0 0) → y ≡ all name_byte s → (x && y) ≡ valid_name s
+module _ (s : List ℕ) (h : 1 ≤ length s) (g : length s ≤ 64) where
+  pub name_first : letter (get_or s 0 0) ≡ true → list_all name_byte s ≡ valid_name s
   unfolding valid_name within
-  name_bytes h g x y e f = rw (le-leb 1 (length s) h, le-leb (length s) 64 g, e, f)
+  name_first e = rw (le-leb 1 (length s) h, le-leb (length s) 64 g, e)
 
--- capital letters
-module _ (b : ℕ) (x : Bool) (e : x ≡ within 65 90 b) where
-  pub lower_fits : x ≡ true → b ≤ 90
-  lower_fits h = within_high 65 90 b (sym h ∙ e)
-
-  pub lower_letter : x ≡ true → b + 32 ≡ lower b
-  unfolding lower
-  lower_letter h = rw (← e, h)
-
-  pub lower_other : x ≡ false → b ≡ lower b
-  unfolding lower
-  lower_other h = rw (← e, h)
+  pub name_not : letter (get_or s 0 0) ≡ false → false ≡ valid_name s
+  unfolding valid_name within
+  name_not e = rw (le-leb 1 (length s) h, le-leb (length s) 64 g, e)
 
 -- two names, byte by byte
 pub same_lengths : (a b : List ℕ) → (length a ≡ length b → ⊥) → false ≡ same_name a b

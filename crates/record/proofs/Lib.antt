@@ -1,5 +1,6 @@
 pub mod Records
 pub mod Reach
+pub mod Walked
 pub mod Shift
 pub mod Append
 pub mod Written

@@ -7,7 +7,7 @@ use mathlib.Core.Logic.{◌⊎◌, inl, inr}
 use native.Mathlib.Omega.{arith}
 use native.Mathlib.Nat.{mod-add-div}
 use lib.Dec.{ltb, eqb}
-use borrow.Author.Tests.{eqb-true, eqb-false, ne_eqb, lt-ltb, le-ltb}
+use borrow.Author.Tests.{eqb-true, ne_eqb, lt-ltb, le-ltb}
 use Rattle.base.specs.Pick.{pick}
 use Rattle.record.specs.declared.kind.Family.TheVariants.{Integer}
 use Rattle.record.specs.declared.kind.ValueType.{ValueType}
@@ -165,23 +165,17 @@ module _ (n : ℕ) where
       rw (le-ltb n 0x0100 (omega arith), ← far (n - 0x0100) (omega arith)) refl
 
   module _ {k : Kind} (says : k ≡ scalar_kind (n % 0x0100)) where
-    as_scalar_law : n / 0x0100 ≡ 0 → k ≡ kind_of n
+    pub kind_scalar : n / 0x0100 ≡ 0 → k ≡ kind_of n
     unfolding kind_of
-    as_scalar_law e = says ∙ rw (lt-ltb n 0x0100 (omega (arith, digits))) (ap scalar_kind (omega (arith, digits)))
-
-    pub kind_scalar : {t : ValueType} → k ≡ Scalar t → n / 0x0100 ≡ 0 → Scalar t ≡ kind_of n
-    kind_scalar i e = sym i ∙ as_scalar_law e
+    kind_scalar e = says ∙ rw (lt-ltb n 0x0100 (omega (arith, digits))) (ap scalar_kind (omega (arith, digits)))
 
     pub kind_array : {t : ValueType} → k ≡ Scalar t → n / 0x0100 ≡ 1 → Array (n % 0x0100) t ≡ kind_of n
     kind_array i e = ap (array_of (n % 0x0100)) (sym i ∙ says) ∙ as_array_law e
 
-    pub kind_unknown : k ≡ Unknown → Unknown ≡ kind_of n
-    kind_unknown i = go (eqb (n / 0x0100) 0) refl (eqb (n / 0x0100) 1) refl
+    pub kind_unknown : ((t : ValueType) → k ≡ Scalar t → ⊥) → n / 0x0100 ≡ 1 → Unknown ≡ kind_of n
+    kind_unknown f e = go k says f ∙ as_array_law e
       where
-        go : (b : Bool) → eqb (n / 0x0100) 0 ≡ b → (c : Bool) → eqb (n / 0x0100) 1 ≡ c → Unknown ≡ kind_of n
-        go true e c f = sym i ∙ as_scalar_law (eqb-true (n / 0x0100) 0 e)
-        go false e true f = ap (array_of (n % 0x0100)) (sym i ∙ says) ∙ as_array_law (eqb-true (n / 0x0100) 1 f)
-        go false e false f = kind_none (eqb-false (n / 0x0100) 0 e) (eqb-false (n / 0x0100) 1 f)
-
-    pub kind_never : {e : ℕ} {t : ValueType} → k ≡ Array e t → Unknown ≡ kind_of n
-    kind_never i = absurd (rw (sym says ∙ i) at (no_array (n % 0x0100)))
+        go : (k : Kind) → k ≡ scalar_kind (n % 0x0100) → ((t : ValueType) → k ≡ Scalar t → ⊥) → Unknown ≡ array_of (n % 0x0100) (scalar_kind (n % 0x0100))
+        go Unknown s f = ap (array_of (n % 0x0100)) s
+        go (Scalar t) s f = absurd (f t refl)
+        go (Array e t) s f = ap (array_of (n % 0x0100)) s

@@ -1,5 +1,5 @@
 -- `record_at` by numbers, the numbers of a whole record, and `records` one step at a time.
-use Prim.Native.Nat.{ℕ, ◌+◌, ◌-◌, ◌≤◌, ◌<◌}
+use Prim.Native.Nat.{ℕ, ◌+◌, ◌≤◌, ◌<◌}
 use mathlib.Core.List.{List}
 use mathlib.Core.Bool.{Bool, true, false}
 use mathlib.Core.Path.{◌≡◌, refl, ap}
@@ -69,6 +69,15 @@ whole_in_law s at kind start len next e = rw e at (found s at)
 
 pub at_last : (s : List ℕ) (at : ℕ) → record_at s at ≡ End → length s ≤ at
 at_last s at e = rw e at (found s at)
+
+-- where a record runs past the end there are bytes left
+pub broken_before : (s : List ℕ) (at : ℕ) → record_at s at ≡ Broken → at < length s
+broken_before s at e = go (view s at)
+  where
+    go : View s at → at < length s
+    go (ends h f) = absurd (let z : ◌≡◌ {A = ℕ} 0 1 = cc in omega arith)
+    go (breaks h g f) = h
+    go (stands h f) = absurd (let z : ◌≡◌ {A = ℕ} 0 1 = cc in omega arith)
 
 -- `records`, one step
 pub records_at : (s : List ℕ) (at : ℕ) → records s at ≡ follow at (record_at s at) (records s)

@@ -1,4 +1,5 @@
 pub mod Record
+pub mod Walked
 pub mod Write
 pub mod Name
 pub mod Reserved

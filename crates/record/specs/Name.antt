@@ -1,5 +1,6 @@
 -- 01 "Records": a name is a letter or `_`, then letters, digits, `_`; ASCII, 1 to 64 bytes, case ignored.
 use Rattle.std.specs.Prelude.{ℕ, ◌+◌, List, [], ◌∷◌, Bool, true, false, ◌&&◌, ◌||◌, length, get_or, eqb}
+use Rattle.std.specs.List.{list_all}
 use Rattle.base.specs.Pick.{pick}
 use Rattle.base.specs.Range.{within}
 
@@ -11,13 +12,8 @@ letter b = within 65 90 b || within 97 122 b || eqb b 95
 unfoldable pub name_byte : ℕ → Bool
 name_byte b = letter b || within 48 57 b
 
--- every byte passes the test
-unfoldable pub all : (ℕ → Bool) → List ℕ → Bool
-all test [] = true
-all test (b ∷ s) = test b && all test s
-
 unfoldable pub valid_name : List ℕ → Bool
-valid_name s = within 1 64 (length s) && (letter (get_or s 0 0) && all name_byte s)
+valid_name s = within 1 64 (length s) && (letter (get_or s 0 0) && list_all name_byte s)
 
 -- a capital letter's small one; any other byte itself
 unfoldable pub lower : ℕ → ℕ

@@ -1,9 +1,9 @@
 // Kinds: what a property's kind says of its values.
 ghost use Rattle.std.specs.Prelude.{◌≡◌};
-ghost use Rattle.record.specs.Kind.{scalar_kind, kind_of, row, same_row};
+ghost use Rattle.record.specs.Kind.{scalar_kind, kind_of, same_row};
 
 // The families of types; integers and reals come in widths.
-#[derive(Clone, Copy)]
+#[derive(Clone, Copy, PartialEq, Eq)]
 pub enum Family {
     Boolean,
     Integer,
@@ -16,7 +16,7 @@ pub enum Family {
 }
 
 // A value's type: its family, the bytes of its body where their number is fixed (else 0), and whether an integer has a sign.
-#[derive(Clone, Copy)]
+#[derive(Clone, Copy, PartialEq, Eq)]
 pub struct ValueType {
     pub family: Family,
     pub width: usize,
@@ -24,7 +24,7 @@ pub struct ValueType {
 }
 
 // What a kind says: a scalar, an array whose elements' records have the kind `element`, or nothing.
-#[derive(Drop)]
+#[derive(Clone, Copy, PartialEq, Eq)]
 pub enum Kind {
     Unknown,
     Scalar(ValueType),
@@ -67,42 +67,27 @@ fn scalar_kind(number: usize) -> Kind
 }
 
 // What a property's kind says: it is the type, plus 0x0100 for an array.
+#[tactic(auto, using(crate::proofs::Numbers::kind_none, crate::proofs::Numbers::kind_scalar, crate::proofs::Numbers::kind_array, crate::proofs::Numbers::kind_unknown))]
 pub fn kind_of(number: usize) -> Kind
     ensures { result ≡ kind_of number }
 {
-    match scalar_kind(number % 0x0100) {
-        Kind::Unknown => Kind::Unknown,
-        Kind::Scalar(of) => match number / 0x0100 {
-            0 => Kind::Scalar(of),
-            1 => Kind::Array {
-                element: number % 0x0100,
-                of,
-            },
-            _ => Kind::Unknown,
+    match (number / 0x0100, scalar_kind(number % 0x0100)) {
+        (0, says) => says,
+        (1, Kind::Scalar(of)) => Kind::Array {
+            element: number % 0x0100,
+            of,
         },
-        Kind::Array { element: _, of: _ } => Kind::Unknown,
+        _ => Kind::Unknown,
     }
 }
 
-// The number of a family's row.
-fn row_of(family: Family) -> u8
-    ensures { result ≡ row family }
-{
-    match family {
-        Family::Boolean => 1,
-        Family::Integer => 2,
-        Family::Real => 3,
-        Family::Text => 4,
-        Family::Char16 => 4,
-        Family::Octets => 5,
-        Family::Datetime => 6,
-        Family::Reference => 7,
-    }
-}
-
-// Whether two families stand in one row.
+// Whether two families stand in one row: text and char16 do, and any other stands in one of its own.
 pub fn same_row(a: Family, b: Family) -> bool
     ensures { result ≡ same_row a b }
 {
-    row_of(a) == row_of(b)
+    a == b
+        || matches!(
+            (a, b),
+            (Family::Text, Family::Char16) | (Family::Char16, Family::Text)
+        )
 }

@@ -4,7 +4,7 @@ ghost use Rattle.base.specs.Pick.{pick};
 ghost use Rattle.record.specs.Record.{record_at};
 
 // What stands at an offset: a whole record, one that runs past the end, or the end.
-#[derive(Drop)]
+#[derive(Clone, Copy)]
 pub enum RecordAt {
     Whole {
         kind: usize,

@@ -1,4 +1,5 @@
 -- What follows for the printed text: its lines; the totals of a run that divides; one line for a refused call, and the numbers that it can have.
+use Rattle.std.specs.Prelude.{Err, Ok, Result}
 use Prim.Native.Nat.{ℕ, ◌+◌, ◌≤◌, ◌<◌}
 use mathlib.Core.List.{List, [], ◌∷◌}
 use mathlib.Core.Bool.{Bool, true, false}
@@ -14,13 +15,9 @@ use Rattle.filter.specs.Refusal.{number_of}
 use Rattle.filter.specs.Check.{check}
 use Rattle.filter.specs.Evaluate.{evaluate}
 use Rattle.filter.specs.declared.refusal.Refusal.{Refusal}
-use Rattle.filter.specs.declared.refusal.Checked.{Checked}
-use Rattle.filter.specs.declared.refusal.Checked.TheVariants as checked
 use Rattle.filter.specs.declared.refusal.Answer.{Answer}
 use Rattle.run.specs.Run.{reading_from, run_reading, bodies_of, instances_of}
 use Rattle.run.specs.Totals.{answers_of, count, totals_of}
-use Rattle.run.specs.declared.reading.RunReading.{RunReading}
-use Rattle.run.specs.declared.reading.RunReading.TheVariants.{Divides, Breaks}
 use Rattle.run.proofs.Counting.{totals, sum}
 use Rattle.run.proofs.Corollaries.{totals_sum}
 use Rattle.run.proofs.Laws.{divides}
@@ -38,17 +35,17 @@ pub data Reported (q t s : List ℕ) : List (List ℕ) → Type 0 where
   answers : Reported q t s (run_lines (answers_of q t s))
 
 module _ (q t s : List ℕ) where
-  read_reported : (r : RunReading) → Reported q t s (lines_read q t s r)
-  read_reported (Breaks p) = refusal indivisible p (omega arith)
-  read_reported (Divides n) = answers
+  read_reported : (r : Result ℕ ℕ) → Reported q t s (lines_read q t s r)
+  read_reported (Err p) = refusal indivisible p (omega arith)
+  read_reported (Ok n) = answers
 
   run_reported : (b : Bool) → Reported q t s (pick b (refused_line indivisible run_limit ∷ []) (lines_read q t s (run_reading s)))
   run_reported true = refusal indivisible run_limit (omega arith)
   run_reported false = read_reported (run_reading s)
 
-  checked_reported : (v : Checked) → Reported q t s (lines_checked q t s v)
-  checked_reported (checked.Refused r) = refusal (number_of r.cause) r.place (omega (arith, number_small r.cause))
-  checked_reported checked.Accepted = run_reported (ltb run_limit (length s))
+  checked_reported : (v : Result (Unit {0}) Refusal) → Reported q t s (lines_checked q t s v)
+  checked_reported (Err r) = refusal (number_of r.cause) r.place (omega (arith, number_small r.cause))
+  checked_reported (Ok tt) = run_reported (ltb run_limit (length s))
 
   pub never_41 : Reported q t s (output_lines q t s)
   unfolding output_lines
@@ -67,26 +64,26 @@ module _ (q t s : List ℕ) where
 
 -- ---- a refused call
 module _ (q t s : List ℕ) where
-  pub refused_alone : (r : Refusal) → check q t ≡ checked.Refused r → lines_of (output q t s) ≡ refused_line (number_of r.cause) r.place ∷ []
+  pub refused_alone : (r : Refusal) → check q t ≡ Err r → lines_of (output q t s) ≡ refused_line (number_of r.cause) r.place ∷ []
   unfolding output_lines
   refused_alone r e = printed_lines q t s ∙ rw e refl
 
-  module _ (accepted : check q t ≡ checked.Accepted) where
+  module _ (accepted : check q t ≡ Ok tt) where
     pub long_alone : run_limit < length s → lines_of (output q t s) ≡ refused_line indivisible run_limit ∷ []
     unfolding output_lines
     long_alone h = printed_lines q t s ∙ rw (accepted, lt-ltb _ _ h) refl
 
-    pub broken_alone : length s ≤ run_limit → (p : ℕ) → run_reading s ≡ Breaks p → lines_of (output q t s) ≡ refused_line indivisible p ∷ []
+    pub broken_alone : length s ≤ run_limit → (p : ℕ) → run_reading s ≡ Err p → lines_of (output q t s) ≡ refused_line indivisible p ∷ []
     unfolding output_lines
     broken_alone h p e = printed_lines q t s ∙ rw (accepted, le-ltb _ _ h, e) refl
 
 -- ---- a run that divides
-lines_count : (number : ℕ) (l : List Answer) → length (answer_lines number l) ≡ length l
+lines_count : (number : ℕ) (l : List (Result Answer Refusal)) → length (answer_lines number l) ≡ length l
 unfolding answer_lines
 lines_count number [] = refl
 lines_count number (a ∷ l) = omega (arith, lines_count (number + 1) l)
 
-module _ (q t s : List ℕ) (accepted : check q t ≡ checked.Accepted) (h : length s ≤ run_limit) (n : ℕ) (e : run_reading s ≡ Divides n) where
+module _ (q t s : List ℕ) (accepted : check q t ≡ Ok tt) (h : length s ≤ run_limit) (n : ℕ) (e : run_reading s ≡ Ok n) where
   pub output_lines_law : lines_of (output q t s) ≡ run_lines (answers_of q t s)
   unfolding output_lines
   output_lines_law = printed_lines q t s ∙ rw (accepted, le-ltb _ _ h, e) refl
@@ -109,7 +106,7 @@ module _ (q t s : List ℕ) (accepted : check q t ≡ checked.Accepted) (h : len
 no_records : records [] 0 ≡ ended
 no_records = records_end [] 0 (at_end_law [] 0 (omega arith))
 
-empty_divides : run_reading [] ≡ Divides 0
+empty_divides : run_reading [] ≡ Ok 0
 unfolding run_reading reading_from
 empty_divides = rw no_records refl
 
@@ -117,5 +114,5 @@ no_lines : (q t : List ℕ) → run_lines (answers_of q t []) ≡ total_line 0 (
 unfolding instances_of bodies_of answer_lines count
 no_lines q t = rw no_records refl
 
-pub empty_run : (q t : List ℕ) → check q t ≡ checked.Accepted → lines_of (output q t []) ≡ total_line 0 (totals 0 0 0) ∷ []
+pub empty_run : (q t : List ℕ) → check q t ≡ Ok tt → lines_of (output q t []) ≡ total_line 0 (totals 0 0 0) ∷ []
 empty_run q t accepted = output_lines_law q t [] accepted (omega arith) 0 empty_divides ∙ no_lines q t

@@ -1,4 +1,5 @@
 -- A buffer of OUTPUT_LIMIT bytes (`src/output.rt`) holds every output.
+use Rattle.std.specs.Prelude.{Err, Ok, Result}
 use Prim.Native.Nat.{ℕ, zero, suc, ◌+◌, ◌-◌, ◌*◌, ◌≤◌, ◌<◌}
 use mathlib.Core.List.{List, [], ◌∷◌, ◌++◌, map}
 use mathlib.Core.Bool.{Bool, true, false}
@@ -17,15 +18,11 @@ use Rattle.filter.specs.Refusal.{number_of}
 use Rattle.filter.specs.Check.{check}
 use Rattle.filter.specs.Evaluate.{evaluate}
 use Rattle.filter.specs.declared.refusal.Refusal.{Refusal}
-use Rattle.filter.specs.declared.refusal.Checked.{Checked}
-use Rattle.filter.specs.declared.refusal.Checked.TheVariants as checked
 use Rattle.filter.specs.declared.refusal.Answer.{Answer}
-use Rattle.filter.specs.declared.refusal.Answer.TheVariants.{Included, Excluded, Refused}
+use Rattle.filter.specs.declared.refusal.Answer.TheVariants.{Included, Excluded}
 use Rattle.run.specs.Run.{reading_from, run_reading, bodies_of, instances_of}
 use Rattle.run.specs.Totals.{answers_of, totals_of}
 use Rattle.run.specs.declared.totals.Totals.{Totals}
-use Rattle.run.specs.declared.reading.RunReading.{RunReading}
-use Rattle.run.specs.declared.reading.RunReading.TheVariants.{Divides, Breaks}
 use Rattle.run.proofs.Counting.{sum}
 use Rattle.run.proofs.Corollaries.{totals_sum}
 use Rattle.text_writer.proofs.Digits.{decimal_short}
@@ -47,12 +44,12 @@ line_short : (number n : ℕ) (word : List ℕ) → Held number → Held n → l
 unfolding line
 line_short number n word h k l = simp length-append (omega (arith, decimal_short number h, spaced_short n k))
 
-word_short : (a : Answer) → length (word_of a) ≤ 8
-word_short (Included n) = omega arith
-word_short (Excluded n) = omega arith
-word_short (Refused r) = omega arith
+word_short : (a : Result Answer Refusal) → length (word_of a) ≤ 8
+word_short (Ok (Included n)) = omega arith
+word_short (Ok (Excluded n)) = omega arith
+word_short (Err r) = omega arith
 
-answer_short : (number : ℕ) (a : Answer) → Held number → Held (value_of a) → length (answer_line number a) ≤ 50
+answer_short : (number : ℕ) (a : Result Answer Refusal) → Held number → Held (value_of a) → length (answer_line number a) ≤ 50
 answer_short number a h k = line_short number (value_of a) (word_of a) h k (word_short a)
 
 refused_short : (number place : ℕ) → Held number → Held place → length (text (refused_line number place ∷ [])) ≤ 50
@@ -72,7 +69,7 @@ total_short n x h e =
     ))
 
 -- ---- a line for each instance, and the last
-module _ (q t : List ℕ) (accepted : check q t ≡ checked.Accepted) (last : List ℕ) where
+module _ (q t : List ℕ) (accepted : check q t ≡ Ok tt) (last : List ℕ) where
   lines_short : (number : ℕ) (l : List (List ℕ)) → Held (number + length l) → length (text (answer_lines number (map (evaluate q t) l) ++ (last ∷ []))) ≤ 51 * length l + length last + 1
   unfolding answer_lines terminated text
   lines_short number [] h = simp length-append (omega arith)
@@ -84,11 +81,11 @@ module _ (q t : List ℕ) (accepted : check q t ≡ checked.Accepted) (last : Li
 
 -- ---- the records of a run: each has four bytes and more, and starts inside it
 module _ (s : List ℕ) where
-  abbrev Starts : RunReading → Type 0
-  Starts (Breaks p) = p ≤ length s
-  Starts (Divides n) = 0 ≤ n
+  abbrev Starts : Result ℕ ℕ → Type 0
+  Starts (Err p) = p ≤ length s
+  Starts (Ok n) = 0 ≤ n
 
-  starts_by : (b : Bool) (at n : ℕ) (r : Records) → at ≤ length s → Starts (reading_from n r) → Starts (pick b (reading_from n r) (Breaks at))
+  starts_by : (b : Bool) (at n : ℕ) (r : Records) → at ≤ length s → Starts (reading_from n r) → Starts (pick b (reading_from n r) (Err at))
   starts_by true at n r h k = k
   starts_by false at n r h k = h
 
@@ -128,7 +125,7 @@ abbrev Fits : List ℕ → Type 0
 Fits s = length s ≤ 16384 * 51 + 90
 
 module _ (q t s : List ℕ) where
-  module _ (accepted : check q t ≡ checked.Accepted) where
+  module _ (accepted : check q t ≡ Ok tt) where
     run_lines_fit : length s ≤ run_limit → Fits (text (run_lines (answers_of q t s)))
     run_lines_fit h =
         let f = instances_few s in
@@ -137,9 +134,9 @@ module _ (q t s : List ℕ) where
         let l = total_short (length (answers_of q t s)) x (omega arith) (totals_sum q t s ∙ sym n) in
         omega (arith, lines_short q t accepted (total_line (length (answers_of q t s)) x) 1 (instances_of s) (omega arith))
 
-    read_fits : length s ≤ run_limit → (r : RunReading) → Starts s r → Fits (text (lines_read q t s r))
-    read_fits h (Breaks p) k = omega (arith, refused_short indivisible p (omega arith) (omega arith))
-    read_fits h (Divides n) k = run_lines_fit h
+    read_fits : length s ≤ run_limit → (r : Result ℕ ℕ) → Starts s r → Fits (text (lines_read q t s r))
+    read_fits h (Err p) k = omega (arith, refused_short indivisible p (omega arith) (omega arith))
+    read_fits h (Ok n) k = run_lines_fit h
 
     run_by : (b : Bool) → ltb run_limit (length s) ≡ b → Fits (text (pick b (refused_line indivisible run_limit ∷ []) (lines_read q t s (run_reading s))))
     run_by true e = omega (arith, refused_short indivisible run_limit (omega arith) (omega arith))
@@ -148,12 +145,12 @@ module _ (q t s : List ℕ) where
     run_fits : Fits (text (lines_accepted q t s))
     run_fits = run_by (ltb run_limit (length s)) refl
 
-  module _ {v : Checked} (e : v ≡ check q t) where
-    pub accepted_fits : v ≡ checked.Accepted → Fits (output q t s)
+  module _ {v : Result (Unit {0}) Refusal} (e : v ≡ check q t) where
+    pub accepted_fits : v ≡ Ok tt → Fits (output q t s)
     unfolding output_lines
     accepted_fits f = rw (← e, f) (run_fits (sym e ∙ f))
 
     -- the code's place is a `usize`
-    pub refused_fits : {x : Refusal} → v ≡ checked.Refused x → Held x.place → {room : ℕ} → 50 ≤ room → length (output q t s) ≤ room
+    pub refused_fits : {x : Refusal} → v ≡ Err x → Held x.place → {room : ℕ} → 50 ≤ room → length (output q t s) ≤ room
     unfolding output_lines
     refused_fits {x} f h k = rw (← e, f) (omega (arith, refused_short (number_of x.cause) x.place (omega (arith, number_small x.cause)) h))

@@ -1,4 +1,5 @@
 -- One law for each exit of `src/line.rt`.
+use Rattle.std.specs.Prelude.{Err, Ok, Result}
 use Prim.Native.Nat.{ℕ}
 use mathlib.Core.List.{List, [], ◌∷◌, ◌++◌, append_assoc}
 use mathlib.Core.Path.{◌≡◌}
@@ -6,7 +7,7 @@ use Rattle.base.specs.Ascii.{bytes}
 use Rattle.filter.specs.Refusal.{number_of}
 use Rattle.filter.specs.declared.refusal.Refusal.{Refusal}
 use Rattle.filter.specs.declared.refusal.Answer.{Answer}
-use Rattle.filter.specs.declared.refusal.Answer.TheVariants.{Included, Excluded, Refused}
+use Rattle.filter.specs.declared.refusal.Answer.TheVariants.{Included, Excluded}
 use Rattle.run.specs.declared.totals.Totals.{Totals}
 use Rattle.text_writer.specs.Decimal.{decimal}
 use Rattle.text_writer.specs.Written.{Written}
@@ -47,12 +48,12 @@ module _ {b : List ℕ} {at : ℕ} where
     unfolding total_line
     total_written n w v u = terminated_after (spaced_totals x) (written_then w v) u
 
-  module _ (number : ℕ) (a : Answer) {r : ℕ} {c : List ℕ} where
-    pub included_written : (n : ℕ) → a ≡ Included n → Written b at (terminated (line number (bytes "included") n)) r c → Written b at (terminated (answer_line number a)) r c
+  module _ (number : ℕ) (a : Result Answer Refusal) {r : ℕ} {c : List ℕ} where
+    pub included_written : (n : ℕ) → a ≡ Ok (Included n) → Written b at (terminated (line number (bytes "included") n)) r c → Written b at (terminated (answer_line number a)) r c
     included_written n e w = rw e w
 
-    pub excluded_written : (n : ℕ) → a ≡ Excluded n → Written b at (terminated (line number (bytes "excluded") n)) r c → Written b at (terminated (answer_line number a)) r c
+    pub excluded_written : (n : ℕ) → a ≡ Ok (Excluded n) → Written b at (terminated (line number (bytes "excluded") n)) r c → Written b at (terminated (answer_line number a)) r c
     excluded_written n e w = rw e w
 
-    pub failed_written : (x : Refusal) → a ≡ Refused x → {n : ℕ} → n ≡ number_of x.cause → Written b at (terminated (line number (bytes "failed") n)) r c → Written b at (terminated (answer_line number a)) r c
+    pub failed_written : (x : Refusal) → a ≡ Err x → {n : ℕ} → n ≡ number_of x.cause → Written b at (terminated (line number (bytes "failed") n)) r c → Written b at (terminated (answer_line number a)) r c
     failed_written x e f w = rw (e, ← f) w

@@ -1,4 +1,5 @@
 -- The lines that stand in a text are those that it was made of, as none of the program's lines has a line feed of its own.
+use Rattle.std.specs.Prelude.{Err, Ok, Result}
 use Prim.Native.Nat.{ℕ, ◌+◌, ◌%◌, ◌<◌}
 use mathlib.Core.List.{List, [], ◌∷◌, ◌++◌}
 use mathlib.Core.Bool.{Bool, true, false, not, ◌&&◌, and_assoc}
@@ -8,12 +9,13 @@ use lib.Dec.{eqb}
 use borrow.Author.Tests.{ne_eqb, not-true}
 use Rattle.base.proofs.Says.{and_both}
 use Rattle.filter.specs.declared.refusal.Answer.{Answer}
-use Rattle.filter.specs.declared.refusal.Answer.TheVariants.{Included, Excluded, Refused}
+use Rattle.filter.specs.declared.refusal.Answer.TheVariants.{Included, Excluded}
 use Rattle.run.specs.declared.totals.Totals.{Totals}
 use Rattle.text_writer.specs.Decimal.{decimal}
 use Rattle.text_writer.proofs.Digits.{by_tenths}
 use Rattle.report.specs.Line.{word_of, spaced, line, answer_line, refused_line, spaced_totals, total_line, answer_lines}
 use Rattle.report.specs.Text.{line_feed, terminated, text, lines_of}
+use Rattle.filter.specs.declared.refusal.Refusal.{Refusal}
 
 -- ---- a byte that a text lacks
 unfoldable pub lacks : (byte : ℕ) → List ℕ → Bool
@@ -53,13 +55,13 @@ spaced_one : (n : ℕ) → OneLine (spaced n)
 unfolding spaced lacks
 spaced_one n = decimal_one n
 
-word_one : (a : Answer) → OneLine (word_of a)
+word_one : (a : Result Answer Refusal) → OneLine (word_of a)
 unfolding lacks
-word_one (Included n) = refl
-word_one (Excluded n) = refl
-word_one (Refused r) = refl
+word_one (Ok (Included n)) = refl
+word_one (Ok (Excluded n)) = refl
+word_one (Err r) = refl
 
-answer_one : (number : ℕ) (a : Answer) → OneLine (answer_line number a)
+answer_one : (number : ℕ) (a : Result Answer Refusal) → OneLine (answer_line number a)
 unfolding line lacks
 answer_one number a = simp (lacks_append line_feed, decimal_one, word_one, spaced_one) refl
 
@@ -89,7 +91,7 @@ read_back (l ∷ ls) (more h p) = first_line l (text ls) h ∙ ap (λ (r : List 
 pub refused_plain : (number place : ℕ) → Plain (refused_line number place ∷ [])
 refused_plain number place = more (refused_one number place) none
 
-pub run_plain : (number n : ℕ) (x : Totals) (l : List Answer) → Plain (answer_lines number l ++ (total_line n x ∷ []))
+pub run_plain : (number n : ℕ) (x : Totals) (l : List (Result Answer Refusal)) → Plain (answer_lines number l ++ (total_line n x ∷ []))
 unfolding answer_lines
 run_plain number n x [] = more (total_one n x) none
 run_plain number n x (a ∷ l) = more (answer_one number a) (run_plain (number + 1) n x l)

@@ -1,27 +1,21 @@
 -- The numbers in a line are small: refusal numbers, and the steps of 64 comparisons that each read at most their instance.
+use Rattle.std.specs.Prelude.{Err, Ok, Result}
 use Prim.Native.Nat.{ℕ, zero, suc, ◌+◌, ◌*◌, ◌≤◌}
 use mathlib.Core.List.{List}
 use mathlib.Core.Bool.{Bool, true, false}
 use mathlib.Core.Path.{◌≡◌, refl}
 use native.Mathlib.Omega.{arith}
 use lib.ListN.{length}
-use Rattle.table.specs.Table.{table_reading}
+use Rattle.table.specs.Table.{Reading, table_reading}
 use Rattle.table.specs.declared.validate.TableFault.TheVariants as table
-use Rattle.table.specs.declared.validate.TableReading.{TableReading}
-use Rattle.table.specs.declared.validate.TableReading.TheVariants as table-reading
-use Rattle.instance.specs.Fault.{conformity}
+use Rattle.instance.specs.Fault.{Conformity, conformity}
 use Rattle.instance.specs.declared.conform.InstanceFault.TheVariants as instance
-use Rattle.instance.specs.declared.conform.Conformity.{Conformity}
-use Rattle.instance.specs.declared.conform.Conformity.TheVariants.{Conforming, Fault}
 use Rattle.token.specs.declared.Token.{Token}
 use Rattle.syntax.specs.declared.comparison.Comparison.{Comparison}
 use Rattle.syntax.specs.declared.fault.Cause.TheVariants as text
+use Rattle.syntax.specs.declared.fault.Fault.{Fault}
 use Rattle.syntax.specs.Scan.{Scan, scan}
 use Rattle.query_text.specs.declared.join.Join.{Join}
-use Rattle.query_text.specs.declared.query.NextResult.{NextResult}
-use Rattle.query_text.specs.declared.query.NextResult.TheVariants.{HasNext, NoNext}
-use Rattle.query_text.specs.declared.query.Verdict.{Verdict}
-use Rattle.query_text.specs.declared.query.Verdict.TheVariants as verdict
 use Rattle.query_text.specs.Query.{Comparisons, only, Query, bad, good, before, last_join, next_comparison, query_from, query_start, query}
 use Rattle.query_text.specs.Text.{text_verdict}
 use Rattle.short_circuit.specs.Count.{sum_of}
@@ -33,7 +27,6 @@ use Rattle.filter.specs.Meaning.{truth_of, steps_of, query_steps}
 use Rattle.filter.specs.Evaluate.{meant_in, answer, answer_if, evaluate, steps_call, steps}
 use Rattle.filter.specs.declared.refusal.Cause.{Cause}
 use Rattle.filter.specs.declared.refusal.Cause.TheVariants as cause
-use Rattle.filter.specs.declared.refusal.Checked.TheVariants as checked
 use Rattle.filter.proofs.QueryAgree.{truth_call}
 use Rattle.filter.proofs.Laws.{short, evaluates}
 use Rattle.filter.proofs.Size.{steps_few}
@@ -74,10 +67,10 @@ module _ (m : ℕ) (s : Scan) (grouped : Bool) where
   sums_join k c j true r h = omega arith
   sums_join k c j false r h = sums_more k c j r h
 
-  sums_next : (k : ℕ) (x : NextResult) → ((u : Token) → Sums m k (query_from k s grouped u))
-      → Sums m (suc k) (elim x [ NoNext f ↦ bad f | HasNext c j u ↦ elim (last_join j) [ true ↦ good (only c) | false ↦ before c j (query_from k s grouped u) ] ])
-  sums_next k (NoNext f) h = omega arith
-  sums_next k (HasNext c j u) h = sums_join k c j (last_join j) (query_from k s grouped u) (h u)
+  sums_next : (k : ℕ) (x : Result (Comparison × Join × Token) Fault) → ((u : Token) → Sums m k (query_from k s grouped u))
+      → Sums m (suc k) (elim x [ Err f ↦ bad f | Ok (c, j, u) ↦ elim (last_join j) [ true ↦ good (only c) | false ↦ before c j (query_from k s grouped u) ] ])
+  sums_next k (Err f) h = omega arith
+  sums_next k (Ok (c, j, u)) h = sums_join k c j (last_join j) (query_from k s grouped u) (h u)
 
   sums_from : (k : ℕ) (t : Token) → Sums m k (query_from k s grouped t)
   unfolding query_from
@@ -102,26 +95,26 @@ module _ (q t i : List ℕ) (fits : length i ≤ 65535) where
   reading_steps (bad f) e = omega arith
   reading_steps (good l) e = query_steps_law l e
 
-  text_steps : (v : Verdict) → steps_call (meant_in q t i) (call_text q v) ≤ 4194304
-  text_steps (verdict.Refused f) = omega arith
-  text_steps verdict.WellFormed = reading_steps (query q) refl
+  text_steps : (v : Result (Unit {0}) Fault) → steps_call (meant_in q t i) (call_text q v) ≤ 4194304
+  text_steps (Err f) = omega arith
+  text_steps (Ok tt) = reading_steps (query q) refl
 
-  table_steps : (r : TableReading) → steps_call (meant_in q t i) (call_under q r) ≤ 4194304
-  table_steps (table-reading.Fault c p) = omega arith
-  table_steps (table-reading.Good n) = text_steps (text_verdict q)
+  table_steps : (r : Reading) → steps_call (meant_in q t i) (call_under q r) ≤ 4194304
+  table_steps (Err f) = omega arith
+  table_steps (Ok n) = text_steps (text_verdict q)
 
   steps_small : steps q t i ≤ 4194304
   unfolding steps call_of
   steps_small = table_steps (table_reading t)
 
-answer_small : (b : Bool) (n : ℕ) → n ≤ 4194304 → value_of (answer b n) ≤ 4194304
+answer_small : (b : Bool) (n : ℕ) → n ≤ 4194304 → value_of (Ok (answer b n)) ≤ 4194304
 answer_small true n h = h
 answer_small false n h = h
 
-module _ (q t i : List ℕ) (accepted : check q t ≡ checked.Accepted) where
+module _ (q t i : List ℕ) (accepted : check q t ≡ Ok tt) where
   value_by : (b : Bool) (k : Conformity) → k ≡ conformity t i → value_of (answer_if k b (steps q t i)) ≤ 4194304
-  value_by b (Fault c p) e = omega (arith, number_small (cause.Instance c))
-  value_by b Conforming e = answer_small b (steps q t i) (steps_small q t i (short t i e refl))
+  value_by b (Err r) e = omega (arith, number_small (cause.Instance r.cause))
+  value_by b (Ok all) e = answer_small b (steps q t i) (steps_small q t i (short t i e refl))
 
   pub value_small : value_of (evaluate q t i) ≤ 4194304
   value_small = rw (evaluates q t i accepted) (value_by (truth_call (meant_in q t i) (call_of q t)) (conformity t i) refl)

@@ -1,21 +1,22 @@
 -- Lines of the program (01 "A fan to try", 02 Q-1), among them the sample's three; texts with their lines, and lines with their words.
-use Rattle.std.specs.Prelude.{ℕ, List, [], ◌∷◌}
+use Rattle.std.specs.Prelude.{ℕ, List, [], ◌∷◌, Err, Ok, Result}
 use Rattle.base.specs.Ascii.{bytes}
 use Rattle.instance.specs.declared.conform.InstanceFault.TheVariants.{Nonconforming}
 use Rattle.filter.specs.declared.refusal.Cause.TheVariants as cause
 use Rattle.filter.specs.declared.refusal.Answer.{Answer}
-use Rattle.filter.specs.declared.refusal.Answer.TheVariants.{Included, Excluded, Refused}
+use Rattle.filter.specs.declared.refusal.Answer.TheVariants.{Included, Excluded}
 use Rattle.run.specs.declared.totals.Totals.{Totals}
 use Rattle.report.specs.Line.{answer_line, refused_line, total_line}
+use Rattle.filter.specs.declared.refusal.Refusal.{Refusal}
 
-abbrev pub line_of : ℕ × Answer → List ℕ
+abbrev pub line_of : ℕ × (Result Answer Refusal) → List ℕ
 line_of x = answer_line x.0 x.1
 
-abbrev pub answers : List ((ℕ × Answer) × List ℕ)
+abbrev pub answers : List ((ℕ × (Result Answer Refusal)) × List ℕ)
 answers =
-    ((1, Included 1), bytes "1 included 1")
-    ∷ ((2, Refused (record { cause = cause.Instance Nonconforming; place = 0 })), bytes "2 failed 31")
-    ∷ ((10, Excluded 4194304), bytes "10 excluded 4194304")
+    ((1, Ok (Included 1)), bytes "1 included 1")
+    ∷ ((2, Err (record { cause = cause.Instance Nonconforming; place = 0 })), bytes "2 failed 31")
+    ∷ ((10, Ok (Excluded 4194304)), bytes "10 excluded 4194304")
     ∷ []
 
 abbrev pub refused_of : ℕ × ℕ → List ℕ

@@ -3,7 +3,7 @@ ghost use Rattle.text_writer.specs.Written.{Written};
 ghost use Rattle.report.specs.Line.{spaced, line, answer_line, refused_line, spaced_totals, total_line};
 ghost use Rattle.report.specs.Text.{terminated};
 
-use filter::refusal::{Answer, number_of};
+use filter::refusal::{Answer, Refusal, number_of};
 use run::totals::Totals;
 use text_writer::buffer::{write_byte, write_text};
 use text_writer::decimal::write_decimal;
@@ -33,16 +33,19 @@ fn write_line(out: &mut [u8], at: usize, number: usize, word: &[u8], n: usize) -
 }
 
 // The line of the instance with this number in its run.
-pub fn write_answer(out: &mut [u8], at: usize, number: usize, answer: Answer) -> usize
+#[tactic(auto, using(crate::proofs::Laws::included_written, crate::proofs::Laws::excluded_written, crate::proofs::Laws::failed_written))]
+pub fn write_answer(
+    out: &mut [u8],
+    at: usize,
+    number: usize,
+    answer: Result<Answer, Refusal>,
+) -> usize
     ensures { Written out.old at (terminated (answer_line number answer)) result out.new }
 {
     match answer {
-        Answer::Included(n) => write_line(out, at, number, b"included", n),
-        Answer::Excluded(n) => write_line(out, at, number, b"excluded", n),
-        Answer::Refused(x) => {
-            let cause = x.cause;
-            write_line(out, at, number, b"failed", number_of(cause))
-        }
+        Ok(Answer::Included(n)) => write_line(out, at, number, b"included", n),
+        Ok(Answer::Excluded(n)) => write_line(out, at, number, b"excluded", n),
+        Err(x) => write_line(out, at, number, b"failed", number_of(x.cause)),
     }
 }
 

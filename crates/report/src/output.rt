@@ -1,6 +1,6 @@
 // The whole of what the program writes.
 ghost use Rattle.std.specs.Prelude.{◌≡◌, ◌≤◌, length};
-ghost use Rattle.filter.specs.Check as Check;
+ghost use Rattle.filter.specs.Check.{IsAccepted};
 ghost use Rattle.run.specs.Totals.{answers_of};
 ghost use Rattle.text_writer.specs.Written.{Written};
 ghost use Rattle.report.specs.Line.{refused_line, run_lines};
@@ -8,15 +8,14 @@ ghost use Rattle.report.specs.Text.{terminated, text};
 ghost use Rattle.report.specs.Output.{indivisible, lines_accepted, output};
 
 use crate::line::{write_answer, write_refused, write_total};
-use base::bytes::piece;
 use filter::check::check;
 use filter::evaluate::evaluate_accepted;
-use filter::refusal::{Checked, number_of};
+use filter::refusal::number_of;
 use instance::notes::NOTES;
 use query_text::query::open_query;
-use record::read::{RecordAt, record_at};
+use record::walk::records_from;
 use run::fault::RunFault;
-use run::reading::{RunReading, read_run};
+use run::reading::read_run;
 use run::totals::{Totals, count_answer};
 
 // No output is longer: a run within its limit has at most 16,384 records, and a line at most 51 bytes, but for the totals with 90.
@@ -24,45 +23,32 @@ pub const OUTPUT_LIMIT: usize = 16_384 * 51 + 90;
 
 // A line for each instance of the run, numbered from 1, and the totals.
 fn write_answers<'a>(out: &mut [u8], query: &'a [u8], table: &'a [u8], run: &'a [u8]) -> usize
-    requires { Check.check query.now table.now ≡ Checked.Accepted }
+    requires { IsAccepted query.now table.now }
     ensures { Written out.old 0 (text (run_lines (answers_of query.now table.now run.now))) result out.new }
 {
     let opened = open_query(query);
     let mut notes = [0usize; NOTES];
     let mut place = 0;
-    let mut at = 0;
     let mut count: usize = 0;
     let mut totals = Totals {
         included: 0,
         excluded: 0,
         failed: 0,
     };
-    loop {
-        match record_at(run, at) {
-            RecordAt::Whole {
-                kind: _,
-                start,
-                length,
-                next,
-            } => {
-                let answer = evaluate_accepted(
-                    query,
-                    table,
-                    piece(run, start, length),
-                    &mut notes,
-                    opened,
-                );
-                count += 1;
-                place = write_answer(out, place, count, answer);
-                totals = count_answer(totals, answer);
-                at = next;
-            }
-            RecordAt::Broken => return write_total(out, place, count, totals),
-            RecordAt::End => return write_total(out, place, count, totals),
-        }
+    for record in records_from(run, 0) {
+        let Ok(record) = record else {
+            break;
+        };
+        let instance = record.body_in(run);
+        let answer = evaluate_accepted(query, table, instance, &mut notes, opened);
+        count += 1;
+        place = write_answer(out, place, count, answer);
+        totals = count_answer(totals, answer);
     }
+    write_total(out, place, count, totals)
 }
 
+#[tactic(auto, using(crate::proofs::Writing::indivisible_written))]
 fn write_indivisible(out: &mut [u8], place: usize) -> usize
     ensures { Written out.old 0 (terminated (refused_line indivisible place)) result out.new }
 {
@@ -71,15 +57,15 @@ fn write_indivisible(out: &mut [u8], place: usize) -> usize
 
 // Of a query that the check accepts; the run's length before its records.
 fn write_run<'a>(out: &mut [u8], query: &'a [u8], table: &'a [u8], run: &'a [u8]) -> usize
-    requires { Check.check query.now table.now ≡ Checked.Accepted }
+    requires { IsAccepted query.now table.now }
     ensures { Written out.old 0 (text (lines_accepted query.now table.now run.now)) result out.new }
 {
     if 65536 < run.len() {
         return write_indivisible(out, 65536);
     }
     match read_run(run) {
-        RunReading::Breaks(place) => write_indivisible(out, place),
-        RunReading::Divides(_) => write_answers(out, query, table, run),
+        Err(place) => write_indivisible(out, place),
+        Ok(_) => write_answers(out, query, table, run),
     }
 }
 
@@ -89,10 +75,7 @@ pub fn write_output<'a>(out: &mut [u8], query: &'a [u8], table: &'a [u8], run: &
     ensures fits { length (output query.now table.now run.now) ≤ OUTPUT_LIMIT }
 {
     match check(query, table) {
-        Checked::Refused(x) => {
-            let cause = x.cause;
-            write_refused(out, 0, number_of(cause), x.place)
-        }
-        Checked::Accepted => write_run(out, query, table, run),
+        Err(x) => write_refused(out, 0, number_of(x.cause), x.place),
+        Ok(()) => write_run(out, query, table, run),
     }
 }

@@ -1,4 +1,5 @@
 -- What follows for a run's instances: how many they are, that 30 never occurs under an accepted query and 255 stands for 31.
+use Rattle.std.specs.Prelude.{Err, Ok, Result}
 use Prim.Native.Nat.{ℕ, zero, suc, ◌-◌, ◌≤◌, ◌<◌}
 use mathlib.Core.List.{List, [], ◌∷◌}
 use mathlib.Core.Logic.{◌↔◌}
@@ -16,32 +17,31 @@ use Rattle.record.proofs.Records.{records_whole, records_broken, records_end}
 use Rattle.record.proofs.Reach.{step_less}
 use Rattle.record.proofs.Small.{whole_small}
 use Rattle.instance.specs.Conforms.{Conforms}
-use Rattle.instance.specs.Fault.{conformity}
+use Rattle.instance.specs.Fault.{Conformity, conforming, conformity}
+use Rattle.instance.specs.declared.conform.InstanceFault.{InstanceFault}
 use Rattle.instance.specs.declared.conform.InstanceFault.TheVariants.{TooLong, Nonconforming}
-use Rattle.instance.specs.declared.conform.Conformity.{Conformity}
-use Rattle.instance.specs.declared.conform.Conformity.TheVariants.{Conforming, Fault}
 use Rattle.instance.proofs.Decides.{long_exactly}
 use Rattle.filter.specs.Refusal.{call_of}
 use Rattle.filter.specs.Check.{check}
 use Rattle.filter.specs.Evaluate.{meant_in, answer_if, evaluate, steps}
 use Rattle.filter.specs.Demand3.{instance_refused, instance_too_long}
-use Rattle.filter.specs.declared.refusal.Checked.TheVariants as checked
 use Rattle.filter.specs.declared.refusal.Answer.{Answer}
-use Rattle.filter.specs.declared.refusal.Answer.TheVariants.{Included, Excluded, Refused}
+use Rattle.filter.specs.declared.refusal.Answer.TheVariants.{Included, Excluded}
 use Rattle.filter.proofs.QueryAgree.{truth_call}
 use Rattle.filter.proofs.Laws.{evaluates}
 use Rattle.filter.proofs.Corollaries.{instance_refusals}
 use Rattle.run.specs.Run.{bodies_of, instances_of}
 use Rattle.run.specs.Totals.{mark_of, answers_of, marks_of, count, totals_of}
 use Rattle.run.proofs.Counting.{sum}
+use Rattle.filter.specs.declared.refusal.Refusal.{Refusal}
 
 -- ---- the totals
-sum_of : (l : List Answer) → sum (totals_of l) ≡ length l
+sum_of : (l : List (Result Answer Refusal)) → sum (totals_of l) ≡ length l
 unfolding count
 sum_of [] = refl
-sum_of (Included n ∷ l) = omega (arith, sum_of l)
-sum_of (Excluded n ∷ l) = omega (arith, sum_of l)
-sum_of (Refused r ∷ l) = omega (arith, sum_of l)
+sum_of (Ok (Included n) ∷ l) = omega (arith, sum_of l)
+sum_of (Ok (Excluded n) ∷ l) = omega (arith, sum_of l)
+sum_of (Err r ∷ l) = omega (arith, sum_of l)
 
 -- one answer for each instance, and one mark
 pub answers_length : (q t run : List ℕ) → length (answers_of q t run) ≡ length (instances_of run)
@@ -79,15 +79,18 @@ module _ (s : List ℕ) (b : Bytes s) where
   instance_short i = short_from (suc (length s)) 0 (omega arith) i
 
 -- an instance of at most 65,535 bytes, under an accepted query: 255 stands for 31, exactly where it doesn't conform
-module _ (q t i : List ℕ) (accepted : check q t ≡ checked.Accepted) (h : length i ≤ 65535) where
-  not_failed : (b : Bool) (n : ℕ) → mark_of (answer_if Conforming b n) ≡ 255 → ⊥
+module _ (q t i : List ℕ) (accepted : check q t ≡ Ok tt) (h : length i ≤ 65535) where
+  not_failed : (b : Bool) (n : ℕ) → mark_of (answer_if conforming b n) ≡ 255 → ⊥
   not_failed true n e = omega (arith, e)
   not_failed false n e = omega (arith, e)
 
   fails_as : (b : Bool) (n : ℕ) (k : Conformity) → conformity t i ≡ k → mark_of (answer_if k b n) ≡ 255 → (p : ℕ) × (answer_if k b n ≡ instance_refused p)
-  fails_as b n Conforming e f = absurd (not_failed b n f)
-  fails_as b n (Fault TooLong p) e f = absurd (let l = (long_exactly t i).0 (rw e tt) in omega arith)
-  fails_as b n (Fault Nonconforming p) e f = (p, refl)
+  fails_as b n (Ok all) e f = absurd (not_failed b n f)
+  fails_as b n (Err r) e f = by r.cause refl
+    where
+      by : (c : InstanceFault) → r.cause ≡ c → (p : ℕ) × (answer_if (Err r) b n ≡ instance_refused p)
+      by TooLong g = absurd (let l = (long_exactly t i).0 (rw (e, g) tt) in omega arith)
+      by Nonconforming g = (r.place, rw g refl)
 
   comes_to : evaluate q t i ≡ answer_if (conformity t i) (truth_call (meant_in q t i) (call_of q t)) (steps q t i)
   comes_to = evaluates q t i accepted
@@ -104,7 +107,7 @@ module _ (q t i : List ℕ) (accepted : check q t ≡ checked.Accepted) (h : len
   )
 
 -- of the instances of a run
-module _ (q t run : List ℕ) (b : Bytes run) (accepted : check q t ≡ checked.Accepted) (i : ℕ) where
+module _ (q t run : List ℕ) (b : Bytes run) (accepted : check q t ≡ Ok tt) (i : ℕ) where
   pub never_30 : evaluate q t (get_or (instances_of run) i []) ≡ instance_too_long → ⊥
   never_30 e = let l = (instance_refusals q t (get_or (instances_of run) i []) accepted).too_long.0 e in omega (arith, instance_short run b i)
 

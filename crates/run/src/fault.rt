@@ -3,7 +3,7 @@ ghost use Rattle.std.specs.Prelude.{◌≡◌};
 ghost use Rattle.run.specs.Fault.{number_of};
 
 // The run doesn't divide into instances; the marks are fewer than these.
-#[derive(Drop)]
+#[derive(Clone, Copy, PartialEq, Eq)]
 pub enum RunFault {
     Indivisible,
     MarksTooFew,

@@ -2,36 +2,19 @@
 ghost use Rattle.std.specs.Prelude.{◌≡◌};
 ghost use Rattle.run.specs.Run.{run_reading};
 
-use record::read::{RecordAt, record_at};
+use record::walk::records_from;
 
 // How many instances a run has, or the start of the first record that is broken or of another kind.
-#[derive(Drop)]
-pub enum RunReading {
-    Divides(usize),
-    Breaks(usize),
-}
-
-pub fn read_run(run: &[u8]) -> RunReading
+pub fn read_run(run: &[u8]) -> Result<usize, usize>
     ensures { result ≡ run_reading run.now }
 {
-    let mut at: usize = 0;
     let mut count: usize = 0;
-    loop {
-        match record_at(run, at) {
-            RecordAt::Whole {
-                kind,
-                start: _,
-                length: _,
-                next,
-            } => {
-                if kind != 0x0300 {
-                    return RunReading::Breaks(at);
-                }
-                count += 1;
-                at = next;
-            }
-            RecordAt::Broken => return RunReading::Breaks(at),
-            RecordAt::End => return RunReading::Divides(count),
+    for record in records_from(run, 0) {
+        let record = record?;
+        if record.kind != 0x0300 {
+            return Err(record.place);
         }
+        count += 1;
     }
+    Ok(count)
 }

@@ -1,5 +1,5 @@
--- Ends of rules: never before their place, and within the text.
-use Prim.Native.Nat.{ℕ, ◌+◌, ◌-◌, ◌≤◌, ◌<◌}
+-- Laws of the ends of rules.
+use Prim.Native.Nat.{ℕ, ◌+◌, ◌≤◌, ◌<◌}
 use mathlib.Core.Path.{◌≡◌, refl}
 use mathlib.Core.List.{List}
 use mathlib.Core.Bool.{Bool, true, false}
@@ -8,12 +8,12 @@ use lib.ListN.{length}
 use Rattle.base.specs.Pick.{pick}
 use Rattle.scan.specs.declared.Class.{Class}
 use Rattle.scan.specs.Class.{run}
-use Rattle.scan.proofs.Runs.{run_from, run_reach}
-
--- an end that a rule reaches from a place on in n bytes; from a place past the end it reaches nothing
-pub record Ends (n at e : ℕ) : Type 0 where
-  pub from : at ≤ e
-  pub reach : e - at ≤ n - at
+pub use Rattle.scan.specs.Ends.{Ends}
+use Rattle.scan.proofs.Runs.{run_from, run_reach, run_end}
+use Prim.Native.Nat.{max}
+use mathlib.Core.Path.{sym, ◌∙◌}
+use lib.Dec.{leb}
+use borrow.Author.Tests.{leb-true, leb-false}
 
 -- from a place within the text it is within the text
 pub ends_within : {n at e : ℕ} → Ends n at e → at ≤ n → e ≤ n
@@ -35,3 +35,15 @@ module _ (n : ℕ) where
 
 pub run_ends : (c : Class) (q : List ℕ) (at : ℕ) → Ends (length q) at (run c q at)
 run_ends c q at = record { from = run_from c q at; reach = run_reach c q at }
+
+-- what equals an end is one
+pub reached : {r e n at : ℕ} → r ≡ e → Ends n at e → (r ≡ e) × Ends n at r
+reached e w = (e, rw e w)
+
+-- the loop's end, also from a place past the text's
+pub run_out : {r : ℕ} (c : Class) (q : List ℕ) (at i : ℕ) → run c q at ≡ run c q i → length q ≤ i → (at ≤ length q → i ≤ length q) → r ≡ max at (length q) → r ≡ run c q at
+run_out {r} c q at i e l h m = go (leb at (length q)) refl
+  where
+    go : (t : Bool) → leb at (length q) ≡ t → r ≡ run c q at
+    go true t = let k = h (leb-true at (length q) t) in let a = leb-true at (length q) t in sym (e ∙ run_end c q i l ∙ omega arith)
+    go false t = let k = leb-false at (length q) t in sym (run_end c q at (omega arith) ∙ omega arith)

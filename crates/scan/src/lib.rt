@@ -1,8 +1,9 @@
 // Runs of bytes of one class in a query's text.
 #![tactic(auto)]
 
-ghost use Rattle.std.specs.Prelude.{◌≡◌, ℕ, ◌-◌, ◌≤◌, length};
+ghost use Rattle.std.specs.Prelude.{◌≡◌, length};
 ghost use Rattle.scan.specs.Class.{white, in_class, run};
+ghost use Rattle.scan.specs.Ends.{Ends};
 
 use base::digit::digit_of;
 use record::name::is_name_byte;
@@ -14,12 +15,14 @@ pub enum Class {
     Digit(u64),
 }
 
+#[tactic(auto, unfolding(crate::specs::Class::white))]
 fn is_white(b: u8) -> bool
     ensures { result ≡ white b }
 {
-    (b == b'\t') | ((b == b'\r') | ((b == b'\n') | (b == b' ')))
+    matches!(b, b'\t' | b'\r' | b'\n' | b' ')
 }
 
+#[tactic(auto, unfolding(crate::specs::Class::in_class))]
 pub fn in_class(c: Class, b: u8) -> bool
     ensures { result ≡ in_class c b }
 {
@@ -32,14 +35,12 @@ pub fn in_class(c: Class, b: u8) -> bool
 
 // The end of the run of a class's bytes from a place on.
 pub fn run_end(c: Class, q: &[u8], at: usize) -> usize
-    ensures { (result ≡ run c q.now at) × (at ≤ result) × (result - at ≤ length q.now - at) }
+    ensures { (result ≡ run c q.now at) × Ends (length q.now) at result }
 {
-    let mut i = at;
-    while i < q.len() {
+    for i in at..q.len() {
         if !in_class(c, q[i]) {
             return i;
         }
-        i += 1;
     }
-    i
+    at.max(q.len())
 }

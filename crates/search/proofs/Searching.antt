@@ -1,20 +1,16 @@
 -- One law for each exit of `src/lib.rt`.
-use Prim.Native.Nat.{ℕ, ◌+◌, ◌≤◌}
+use Rattle.std.specs.Prelude.{Option as Optional, None, Some}
+use Prim.Native.Nat.{ℕ, ◌+◌}
 use mathlib.Core.List.{List, [], ◌∷◌}
 use mathlib.Core.Bool.{Bool, true, false, not}
 use mathlib.Core.Path.{◌≡◌, refl, sym, ap, ◌∙◌}
 use mathlib.Core.Option.{Option, some}
 use native.Mathlib.Omega.{arith}
-use lib.ListN.{length}
 use Rattle.base.specs.Part.{part}
 use Rattle.base.specs.declared.order.Operator.{Operator}
 use Rattle.base.proofs.Says.{apart}
-use Rattle.record.specs.Record.{record_at, records}
-use Rattle.record.specs.declared.read.RecordAt.{RecordAt}
-use Rattle.record.specs.declared.read.RecordAt.TheVariants.{Whole, Broken, End}
+use Rattle.record.specs.Record.{Records, item, broken, ended, records}
 use Rattle.record.specs.declared.kind.ValueType.{ValueType}
-use Rattle.record.proofs.Records.{records_whole, records_broken, records_end}
-use Rattle.record.proofs.Reach.{step_in}
 use Rattle.instance.specs.Value.{ScalarValue, element_in, elements}
 use Rattle.value.specs.Compare.{compares}
 use Rattle.value.specs.Item.{item_value}
@@ -22,19 +18,10 @@ use Rattle.short_circuit.specs.Walk.{told}
 use Rattle.short_circuit.specs.declared.Told.{Told}
 use Rattle.place.specs.Place.{source_bytes, located_value, elements_of, body_value}
 use Rattle.place.specs.declared.Located.{Located}
-use Rattle.place.specs.declared.Body.{Body}
-use Rattle.place.specs.declared.Body.TheVariants as body
+use Rattle.place.specs.declared.Part.{Part}
 use Rattle.place.specs.Negation.{reversed_if}
 use Rattle.place.proofs.Negating.{of_false}
 use Rattle.search.specs.Search.{besides, decides, some_holds, all_hold, search_holds, elements_seen, search_steps, searched}
-
--- a counter that starts at 1 stays at most one above the offset, and has room
-module _ (s : List ℕ) (at : ℕ) {r : RecordAt} (e : r ≡ record_at s at) {kind start len next : ℕ} (f : r ≡ Whole kind start len next) (n : ℕ) (h : n ≤ at + 1) where
-  pub step_counts : n + 1 ≤ next + 1
-  step_counts = let w = step_in s at e f in omega arith
-
-  pub step_room : n + 1 ≤ length s
-  step_room = let w = step_in s at e f in omega arith
 
 -- the search of elements, after n steps
 abbrev pub search_from : (any : Bool) → (Option ScalarValue → Bool) → ℕ → List (Option ScalarValue) → Told
@@ -73,40 +60,39 @@ module _ (any : Bool) (op : Operator) (a : List ℕ) (of : ValueType) (y : Optio
   unfolding searched search_steps
   search_start = refl
 
-  module _ (w : Told) (at n : ℕ) (inv : w ≡ search_from any (besides op y) n (elements of a (records a at))) (r : RecordAt) (er : r ≡ record_at a at) where
+  module _ (w : Told) (n : ℕ) (rs : Records) (inv : w ≡ search_from any (besides op y) n (elements of a rs)) where
     module _ (t : Told) (et : t ≡ told (not any) n) where
-      pub search_broken : r ≡ Broken → t ≡ w
+      pub search_broken : (place : ℕ) → rs ≡ broken place → t ≡ w
       unfolding elements
-      search_broken e = et ∙ from_none (besides op y) n any ∙ sym (inv ∙ rw (records_broken a at (sym er ∙ e)))
+      search_broken place e = et ∙ from_none (besides op y) n any ∙ sym (inv ∙ rw e)
 
-      pub search_end : r ≡ End → t ≡ w
+      pub search_end : rs ≡ ended → t ≡ w
       unfolding elements
-      search_end e = et ∙ from_none (besides op y) n any ∙ sym (inv ∙ rw (records_end a at (sym er ∙ e)))
+      search_end e = et ∙ from_none (besides op y) n any ∙ sym (inv ∙ rw e)
 
-    module _ (kind start len next : ℕ) (e : r ≡ Whole kind start len next) (h : Bool) (eh : h ≡ compares op (element_in of kind (part a start len)) y)
+    module _ (place kind start len : ℕ) (rest : Records) (e : rs ≡ item place kind start len rest) (h : Bool) (eh : h ≡ compares op (element_in of kind (part a start len)) y)
         (d : Bool) (ed : d ≡ decides any h) where
-      whole : w ≡ search_from any (besides op y) n (element_in of kind (part a start len) ∷ elements of a (records a next))
+      whole : w ≡ search_from any (besides op y) n (element_in of kind (part a start len) ∷ elements of a rest)
       unfolding elements
-      whole = inv ∙ rw (records_whole a at kind start len next (sym er ∙ e))
+      whole = inv ∙ rw e
 
       pub search_decided : d ≡ true → told any (n + 1) ≡ w
-      search_decided f =
-          from_decided (besides op y) n (element_in of kind (part a start len)) (elements of a (records a next)) any (ap (decides any) (sym eh) ∙ sym ed ∙ f) ∙ sym whole
+      search_decided f = from_decided (besides op y) n (element_in of kind (part a start len)) (elements of a rest) any (ap (decides any) (sym eh) ∙ sym ed ∙ f) ∙ sym whole
 
-      pub search_next : d ≡ false → w ≡ search_from any (besides op y) (n + 1) (elements of a (records a next))
-      search_next f = whole ∙ from_open (besides op y) n (element_in of kind (part a start len)) (elements of a (records a next)) any (ap (decides any) (sym eh) ∙ sym ed ∙ f)
+      pub search_next : d ≡ false → w ≡ search_from any (besides op y) (n + 1) (elements of a rest)
+      search_next f = whole ∙ from_open (besides op y) n (element_in of kind (part a start len)) (elements of a rest) any (ap (decides any) (sym eh) ∙ sym ed ∙ f)
 
 -- NOT
 pub turned : (negated : Bool) (t : Told) (b : Bool) → b ≡ reversed_if negated t.holds → told b t.steps ≡ told (reversed_if negated t.holds) t.steps
 turned negated t b e = ap (λ (z : Bool). told z t.steps) e
 
-module _ (negated any : Bool) (op : Operator) (q i : List ℕ) (of : ValueType) (x : Body) (y : Located) where
-  pub search_null : x ≡ body.Null → told negated 1 ≡ searched negated any op (body_value of i x) (located_value q i y)
+module _ (negated any : Bool) (op : Operator) (q i : List ℕ) (of : ValueType) (x : Optional Part) (y : Located) where
+  pub search_null : x ≡ None → told negated 1 ≡ searched negated any op (body_value of i x) (located_value q i y)
   unfolding searched body_value search_holds search_steps
   search_null h = rw h (ap (λ (z : Bool). told z 1) (of_false negated))
 
-  pub search_body : (start len : ℕ) → x ≡ body.At start len → (b : List ℕ) → b ≡ source_bytes q i y.source → (a : List ℕ) → a ≡ part i start len
+  pub search_body : (p : Part) → x ≡ Some p → (b : List ℕ) → b ≡ source_bytes q i y.source → (a : List ℕ) → a ≡ part i p.start p.length
       → (t : Told) → t ≡ searched false any op (some (elements_of of a)) (item_value b y.item) → (r : Told) → r ≡ told (reversed_if negated t.holds) t.steps
       → r ≡ searched negated any op (body_value of i x) (located_value q i y)
   unfolding searched body_value
-  search_body start len h b eb a ea t et r er = er ∙ rw (et, ea, eb, h)
+  search_body p h b eb a ea t et r er = er ∙ rw (et, ea, eb, h)

@@ -13,9 +13,9 @@ ghost use Rattle.search.specs.Search.{searched};
 use base::bytes::piece;
 use base::order::Operator;
 use place::negation::reverse_if;
-use place::{Body, Located, bytes_of, holds_in};
+use place::{Located, Part, bytes_of, holds_in};
 use record::kind::ValueType;
-use record::read::{RecordAt, record_at};
+use record::walk::records_from;
 use short_circuit::Told;
 use value::item::Item;
 
@@ -47,31 +47,23 @@ fn search_records<'a>(
 ) -> Told
     ensures { result ≡ searched false any op (some (elements_of of a.now)) (item_value b.now y) }
 {
-    let mut at: usize = 0;
     let mut n: usize = 1;
-    loop {
-        match record_at(a, at) {
-            RecordAt::Whole {
-                kind,
-                start,
-                length,
-                next,
-            } => {
-                if decides(any, holds_in(op, a, of, kind, start, length, b, y)) {
-                    break Told {
-                        holds: any,
-                        steps: n + 1,
-                    };
-                }
-                at = next;
-                n += 1;
-            }
-            RecordAt::Broken => break undecided(any, n),
-            RecordAt::End => break undecided(any, n),
+    for record in records_from(a, 0) {
+        let Ok(record) = record else {
+            return undecided(any, n);
+        };
+        if decides(any, holds_in(op, a, of, record, b, y)) {
+            return Told {
+                holds: any,
+                steps: n + 1,
+            };
         }
+        n += 1;
     }
+    undecided(any, n)
 }
 
+#[tactic(auto, using(crate::proofs::Searching::turned))]
 fn turn(negated: bool, t: Told) -> Told
     ensures { result ≡ told (reversed_if negated t.holds) t.steps }
 {
@@ -82,6 +74,7 @@ fn turn(negated: bool, t: Told) -> Told
 }
 
 // ANY (`any`) or EVERY element of an array, beside a value.
+#[tactic(auto, using(crate::proofs::Searching::search_null, crate::proofs::Searching::search_body))]
 pub fn search<'a>(
     negated: bool,
     any: bool,
@@ -89,24 +82,20 @@ pub fn search<'a>(
     q: &'a [u8],
     i: &'a [u8],
     of: ValueType,
-    x: Body,
+    x: Option<Part>,
     y: Located,
 ) -> Told
     ensures { result ≡ searched negated any op (body_value of i.now x) (located_value q.now i.now y) }
 {
     match x {
-        Body::Null => Told {
+        None => Told {
             holds: negated,
             steps: 1,
         },
-        Body::At(start, len) => {
-            let source = y.source;
-            let item = y.item;
-            let b = bytes_of(q, i, source);
-            turn(
-                negated,
-                search_records(any, op, piece(i, start, len), of, b, item),
-            )
+        Some(body) => {
+            let b = bytes_of(q, i, y.source);
+            let a = piece(i, body.start, body.length);
+            turn(negated, search_records(any, op, a, of, b, y.item))
         }
     }
 }

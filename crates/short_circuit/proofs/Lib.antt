@@ -1,4 +1,3 @@
-pub mod Laws
 pub mod Rest
 pub mod Steps
 pub mod Bound

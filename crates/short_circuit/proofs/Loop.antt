@@ -1,4 +1,5 @@
 -- Laws for a loop that reads a query's comparisons and walks them: one for each way out, with `whole` what the loop is to come to.
+use Rattle.std.specs.Prelude.{Err, Ok, Result}
 use Prim.Native.Nat.{ℕ, zero, suc, ◌+◌, ◌-◌, ◌≤◌, ◌<◌}
 use mathlib.Core.Path.{◌≡◌, refl, sym, ap, subst, ◌∙◌}
 use mathlib.Core.List.{List}
@@ -10,8 +11,6 @@ use Rattle.syntax.specs.declared.comparison.Comparison.{Comparison}
 use Rattle.syntax.specs.declared.fault.Fault.{Fault}
 use Rattle.syntax.specs.Scan.{Scan, scan}
 use Rattle.query_text.specs.declared.join.Join.{Join}
-use Rattle.query_text.specs.declared.query.NextResult.{NextResult}
-use Rattle.query_text.specs.declared.query.NextResult.TheVariants.{HasNext, NoNext}
 use Rattle.query_text.specs.declared.query.QueryStart.{QueryStart}
 use Rattle.query_text.specs.Query.{Comparisons, Query, bad, good, before, last_join, next_comparison, query_from, query_start, query}
 use Rattle.query_text.specs.Tree.{tree, holds, State, live, total, step}
@@ -32,17 +31,17 @@ joined_before c j (bad f) e h = tt
 joined_before c j (good l) e h = (e, h)
 
 module _ (s : Scan) (grouped : Bool) where
-  joined_next : (k : ℕ) (t : Token) (r : NextResult) → r ≡ next_comparison s grouped t → ((u : Token) → JoinedIn (query_from k s grouped u))
+  joined_next : (k : ℕ) (t : Token) (r : Result (Comparison × Join × Token) Fault) → r ≡ next_comparison s grouped t → ((u : Token) → JoinedIn (query_from k s grouped u))
       → JoinedIn (query_from (suc k) s grouped t)
   unfolding JoinedIn Joined
-  joined_next k t (NoNext f) e h = rw (from_bad s grouped t (NoNext f) e (suc k) f (omega arith) refl) tt
-  joined_next k t (HasNext c j u) e h = by (last_join j) refl
+  joined_next k t (Err f) e h = rw (from_bad s grouped t (Err f) e (suc k) f (omega arith) refl) tt
+  joined_next k t (Ok (c, j, u)) e h = by (last_join j) refl
     where
       by : (b : Bool) → b ≡ last_join j → JoinedIn (query_from (suc k) s grouped t)
-      by true f = rw (from_last s grouped t (HasNext c j u) e c j u refl true f (suc k) (omega arith) refl) tt
+      by true f = rw (from_last s grouped t (Ok (c, j, u)) e c j u refl true f (suc k) (omega arith) refl) tt
       by false f =
           let z : k ≡ suc k - 1 = omega arith in
-          rw (from_more s grouped t (HasNext c j u) e c j u refl false f (suc k) (omega arith) refl)
+          rw (from_more s grouped t (Ok (c, j, u)) e c j u refl false f (suc k) (omega arith) refl)
           (joined_before c j (query_from (suc k - 1) s grouped u) (sym f) (subst (λ (x : ℕ). JoinedIn (query_from x s grouped u)) z (h u)))
 
   joined_from : (k : ℕ) (t : Token) → JoinedIn (query_from k s grouped t)
@@ -91,13 +90,13 @@ module _ (v : Comparison → Bool) (n : Comparison → ℕ) where
     unfolding walk_query
     walk_out h = sym (i ∙ ap (walk_query v n s k) (from_out (scan q) grouped t left (opening t) h refl))
 
-    module _ (h : 0 < left) {r : NextResult} (e : r ≡ next_comparison (scan q) grouped t) where
+    module _ (h : 0 < left) {r : Result (Comparison × Join × Token) Fault} (e : r ≡ next_comparison (scan q) grouped t) where
       -- no comparison
-      pub walk_none : (f : Fault) → r ≡ NoNext f → told false 0 ≡ whole
+      pub walk_none : (f : Fault) → r ≡ Err f → told false 0 ≡ whole
       unfolding walk_query
       walk_none f g = sym (i ∙ ap (walk_query v n s k) (from_bad (scan q) grouped t r e left f h g))
 
-      module _ (c : Comparison) (j : Join) (u : Token) (g : r ≡ HasNext c j u) {b : Bool} (eb : b ≡ live s) {o : Told} (eo : o ≡ told (b && v c) (steps_if b (n c)))
+      module _ (c : Comparison) (j : Join) (u : Token) (g : r ≡ Ok (c, j, u)) {b : Bool} (eb : b ≡ live s) {o : Told} (eo : o ≡ told (b && v c) (steps_if b (n c)))
           {z : Bool} (ez : z ≡ last_join j) where
         judged_if : o ≡ told (live s && v c) (steps_if (live s) (n c))
         judged_if = eo ∙ ap (λ (x : Bool). told (x && v c) (steps_if x (n c))) eb

@@ -261,7 +261,7 @@ module _ (v : Comparison → Bool) (n : Comparison → ℕ) where
 
     pub rest_more : (s : State) (j : Join) (t : Tree) → last_join j ≡ false → rest_of s (join c j t) ≡ add (steps_if (live s) (n c)) (rest_of (step j s (live s && v c)) t)
     unfolding rest_of step
-    rest_more s Last t e = let z : ◌≡◌ {A = ℕ} 0 1 = cc in absurd (omega arith)
+    rest_more s Last t e = absurd (cc)
     rest_more s (Inner And) t e = one_and _ _ _ _ c t ∙ after_and s.ors s.ands s.group_ors s.group_ands t
     rest_more s (Inner Or) t e = one_or _ _ _ _ c t ∙ after_or s.ors s.ands s.group_ors s.group_ands t
     rest_more s (Outer And) t e = group_and _ _ _ _ c t ∙ after_group_and s.ors s.ands s.group_ors s.group_ands t

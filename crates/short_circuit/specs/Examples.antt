@@ -1,9 +1,8 @@
 -- Queries of the comparisons a, b and c by their shape, with what each comes to and counts: a counts 1, b counts 10 and c counts 100, so the sum shows which were judged.
-use Rattle.std.specs.Prelude.{ℕ, List, [], ◌∷◌, Bool, true, false, get_or}
+use Rattle.std.specs.Prelude.{ℕ, List, [], ◌∷◌, Bool, true, false, get_or, None}
 use Rattle.terminal.specs.declared.operator.BoolOp.TheVariants.{And, Or}
 use Rattle.terminal.specs.declared.quantifier.Quantifier.TheVariants.{Single}
 use Rattle.syntax.specs.declared.path.Span.{Span}
-use Rattle.syntax.specs.declared.path.Index.TheVariants.{Whole}
 use Rattle.syntax.specs.declared.operation.Operation.TheVariants.{Like}
 use Rattle.syntax.specs.declared.right_side.RightSide.TheVariants.{Elements}
 use Rattle.syntax.specs.declared.comparison.Comparison.{Comparison}
@@ -21,7 +20,7 @@ nowhere = record { start = 0; end = 0 }
 abbrev at : ℕ → Comparison
 at n =
     record {
-      left = record { start = n; negated = false; quantifier = Single; path = record { first = nowhere; second = nowhere; names = 1 }; index = Whole };
+      left = record { start = n; negated = false; quantifier = Single; path = record { first = nowhere; second = nowhere; names = 1 }; index = None };
       operation = Like;
       right = Elements 0 0 0;
     }

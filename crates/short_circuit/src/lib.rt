@@ -44,57 +44,37 @@ pub fn is_live(c: Chains) -> bool
 }
 
 // What a query comes to whose last comparison comes to `holds`.
+#[tactic(auto, unfolding(query_text::specs::Tree::total))]
 pub fn finish(c: Chains, holds: bool) -> bool
     ensures { result ≡ total (state_of c) holds }
 {
     c.ors | (c.ands & (c.group_ors | (c.group_ands & holds)))
 }
 
-fn join_inner(c: Chains, op: BoolOp, holds: bool) -> Chains
-    ensures { state_of result ≡ step (Join.Inner op) (state_of c) holds }
-{
-    match op {
-        BoolOp::And => Chains {
-            ors: c.ors,
-            ands: c.ands,
-            group_ors: c.group_ors,
-            group_ands: c.group_ands & holds,
-        },
-        BoolOp::Or => Chains {
-            ors: c.ors,
-            ands: c.ands,
-            group_ors: c.group_ors | (c.group_ands & holds),
-            group_ands: true,
-        },
-    }
-}
-
-fn join_outer(c: Chains, op: BoolOp, holds: bool) -> Chains
-    ensures { state_of result ≡ step (Join.Outer op) (state_of c) holds }
-{
-    match op {
-        BoolOp::And => Chains {
-            ors: c.ors,
-            ands: c.ands & (c.group_ors | (c.group_ands & holds)),
-            group_ors: false,
-            group_ands: true,
-        },
-        BoolOp::Or => Chains {
-            ors: finish(c, holds),
-            ands: true,
-            group_ors: false,
-            group_ands: true,
-        },
-    }
-}
-
 // After a comparison that comes to `holds` and what follows it.
+#[tactic(auto, unfolding(query_text::specs::Tree::step))]
 pub fn advance(c: Chains, j: Join, holds: bool) -> Chains
     ensures { state_of result ≡ step j (state_of c) holds }
 {
     match j {
         Join::Last => c,
-        Join::Inner(op) => join_inner(c, op, holds),
-        Join::Outer(op) => join_outer(c, op, holds),
+        Join::Inner(BoolOp::And) => Chains {
+            group_ands: c.group_ands & holds,
+            ..c
+        },
+        Join::Inner(BoolOp::Or) => Chains {
+            group_ors: c.group_ors | (c.group_ands & holds),
+            group_ands: true,
+            ..c
+        },
+        Join::Outer(BoolOp::And) => Chains {
+            ors: c.ors,
+            ands: c.ands & (c.group_ors | (c.group_ands & holds)),
+            ..start()
+        },
+        Join::Outer(BoolOp::Or) => Chains {
+            ors: finish(c, holds),
+            ..start()
+        },
     }
 }

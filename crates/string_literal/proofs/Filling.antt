@@ -1,6 +1,7 @@
 -- One law for each exit of `fill`.
 use Prim.Native.Nat.{ℕ, suc, ◌+◌, ◌≤◌, ◌<◌}
 use mathlib.Core.Path.{◌≡◌, refl, sym, ap, ◌∙◌}
+use mathlib.Core.Logic.{◌⊎◌, inl, inr}
 use mathlib.Core.List.{List, [], ◌∷◌, ◌++◌, append_assoc, append-nil}
 use native.Mathlib.Numerals.{add-one}
 use native.Mathlib.Omega.{arith}
@@ -13,20 +14,24 @@ use Rattle.string_literal.specs.Char.{char_at}
 use Rattle.string_literal.specs.Text.{text_at, characters_of, filled}
 use Rattle.string_literal.proofs.Bounds.{text_character, text_close, text_bad}
 use Rattle.string_literal.proofs.Laws.{char_past}
-use Rattle.string_literal.specs.declared.Filled.TheVariants.{Count, TooMany}
+use Rattle.std.specs.Prelude.{Some, None}
 
 module _ {r : InString} (q : List ℕ) (i : ℕ) (e : r ≡ char_at q i) where
   pub next_character : (v next : ℕ) → r ≡ Character v next → characters_of (text_at q i) ≡ v ∷ characters_of (text_at q next)
   unfolding characters_of
   next_character v next f = rw (text_character q i v next (sym e ∙ f))
 
-  pub at_close : r ≡ Close → characters_of (text_at q i) ≡ []
+  at_close : r ≡ Close → characters_of (text_at q i) ≡ []
   unfolding characters_of
   at_close f = rw (text_close q i (sym e ∙ f))
 
   pub at_bad : r ≡ Bad → characters_of (text_at q i) ≡ []
   unfolding characters_of
   at_bad f = rw (text_bad q i (sym e ∙ f))
+
+  pub at_end : (r ≡ Close) ⊎ (r ≡ Bad) → characters_of (text_at q i) ≡ []
+  at_end (inl f) = at_close f
+  at_end (inr f) = at_bad f
 
 pub at_past : (q : List ℕ) (i : ℕ) → length q ≤ i → characters_of (text_at q i) ≡ []
 at_past q i h = at_bad q i refl (char_past q i h)
@@ -38,14 +43,14 @@ module _ (cs rest out : List ℕ) (n : ℕ) (inv : cs ≡ take n out ++ rest) (s
       go : (m : ℕ) → m ≤ size → Prim.Native.Nat.min m (length out) + length rest ≡ m + length rest
       go m l = omega arith
 
-  pub all_in : n ≤ size → rest ≡ [] → (Count n ≡ filled size cs) × (take n out ≡ cs)
+  pub all_in : n ≤ size → rest ≡ [] → (Some n ≡ filled size cs) × (take n out ≡ cs)
   unfolding filled
   all_in h z =
       let y : length rest ≡ 0 = ap length z in
       let l : length cs ≡ n = omega (arith, whole_length h) in
       (rw (l, le-leb n size h), sym (inv ∙ rw z (append-nil (take n out))))
 
-  pub too_many : (v : ℕ) (more : List ℕ) → size ≤ n → n ≤ size → rest ≡ v ∷ more → TooMany ≡ filled size cs
+  pub too_many : (v : ℕ) (more : List ℕ) → size ≤ n → n ≤ size → rest ≡ v ∷ more → None ≡ filled size cs
   unfolding filled
   too_many v more a h z =
       let l : length cs ≡ n + suc (length more) = rw z at (whole_length h) in

@@ -1,20 +1,22 @@
 -- One law for each exit of `src/`.
-use Prim.Native.Nat.{ℕ, ◌+◌, ◌≤◌, ◌<◌}
+use Prim.Native.Nat.{ℕ, ◌+◌, ◌-◌, ◌≤◌, ◌<◌, min}
 use mathlib.Core.Path.{◌≡◌, refl, sym, ◌∙◌}
 use mathlib.Core.List.{List}
 use mathlib.Core.Bool.{Bool, true, false, not, ◌&&◌, ◌||◌}
 use native.Mathlib.Omega.{arith}
 use lib.ListN.{length}
 use lib.Dec.{leb, ltb, eqb}
-use borrow.Author.Tests.{lt-leb, le-ltb, not-true}
+use borrow.Author.Tests.{lt-leb, le-ltb, not-true, ltb-true, ltb-false}
+use Rattle.base.specs.Pick.{pick}
 use Rattle.base.specs.Range.{within}
+use Rattle.scan.specs.Class.{run}
+use Rattle.scan.specs.declared.Class.TheVariants.{Digit}
 use Rattle.encoding.specs.Scalar.{is_scalar_value}
 use Rattle.encoding.proofs.WellFormed.{past_end}
 use Rattle.base.proofs.Says.{and_both, and_false, or_neither}
 use Rattle.base.specs.Part.{byte_at}
 use Rattle.base.specs.Digit.{value_of, size_under}
-use Rattle.base.specs.declared.digit.Size.{Size}
-use Rattle.base.specs.declared.digit.Size.TheVariants.{Fits, TooLarge}
+use Rattle.std.specs.Prelude.{Option, Some, None}
 use Rattle.base.proofs.Lists.{byte_within, byte_past}
 use Rattle.base.proofs.Digits.{fits_value, large_value}
 use Rattle.string_literal.specs.declared.InString.{InString}
@@ -36,21 +38,30 @@ no_scalar v h = rw (within_above 0 0xd7ff v (omega arith), within_above 0xe000 0
 pub at_byte : {b : ℕ} (q : List ℕ) (at k : ℕ) → b ≡ byte_at q at → b ≡ k → 0 < k → at < length q
 at_byte q at k e f h = byte_within q at (λ z. let y : k ≡ 0 = sym f ∙ e ∙ z in omega arith)
 
+-- the digits of a run, up to the longest
+pub hex_run_least : {r e : ℕ} (q : List ℕ) (at : ℕ) → e ≡ run (Digit 16) q at → r ≡ min (e - at) 6 → r ≡ hex_run q at
+unfolding hex_run
+hex_run_least {r} q at e f = go (ltb (run (Digit 16) q at - at) 6) refl
+  where
+    go : (t : Bool) → ltb (run (Digit 16) q at - at) 6 ≡ t → r ≡ pick t (run (Digit 16) q at - at) 6
+    go true t = let l = ltb-true (run (Digit 16) q at - at) 6 t in omega (arith, e, f)
+    go false t = let l = ltb-false (run (Digit 16) q at - at) 6 t in omega (arith, e, f)
+
 -- \u
-module _ {n : ℕ} {s : Size} (q : List ℕ) (at : ℕ) (en : n ≡ hex_run q at) (enough : 4 ≤ n) (es : s ≡ size_under 0x10ffff (value_of 16 0 q at n)) where
-  pub escape_scalar : {t : Bool} (v : ℕ) → s ≡ Fits v → t ≡ is_scalar_value v → t ≡ true → Character v (at + n) ≡ unicode_escape q at
+module _ {n : ℕ} {s : Option ℕ} (q : List ℕ) (at : ℕ) (en : n ≡ hex_run q at) (enough : 4 ≤ n) (es : s ≡ size_under 0x10ffff (value_of 16 0 q at n)) where
+  pub escape_scalar : {t : Bool} (v : ℕ) → s ≡ Some v → t ≡ is_scalar_value v → t ≡ true → Character v (at + n) ≡ unicode_escape q at
   unfolding unicode_escape
   escape_scalar v e f g =
       let w : value_of 16 0 q at (hex_run q at) ≡ v = rw (← en) (sym (fits_value _ _ es v e)) in
       rw (le-ltb (hex_run q at) 4 (omega arith), w, ← f, g, en)
 
-  pub escape_surrogate : {t : Bool} (v : ℕ) → s ≡ Fits v → t ≡ is_scalar_value v → t ≡ false → Bad ≡ unicode_escape q at
+  pub escape_surrogate : {t : Bool} (v : ℕ) → s ≡ Some v → t ≡ is_scalar_value v → t ≡ false → Bad ≡ unicode_escape q at
   unfolding unicode_escape
   escape_surrogate v e f g =
       let w : value_of 16 0 q at (hex_run q at) ≡ v = rw (← en) (sym (fits_value _ _ es v e)) in
       rw (le-ltb (hex_run q at) 4 (omega arith), w, ← f, g)
 
-  pub escape_beyond : s ≡ TooLarge → Bad ≡ unicode_escape q at
+  pub escape_beyond : s ≡ None → Bad ≡ unicode_escape q at
   unfolding unicode_escape
   escape_beyond e =
       let w : 0x10ffff < value_of 16 0 q at (hex_run q at) = rw (← en) (large_value _ _ es e) in

@@ -1,13 +1,11 @@
 -- A string literal's text, character by character (000 5.3.2, string-literal; 01: "a bad escape makes the string no token").
-use Rattle.std.specs.Prelude.{ℕ, ◌+◌, ◌≤◌, ◌<◌, ◌≡◌, List, [], ◌∷◌, ◌++◌, length, take, eqb, leb}
+use Rattle.std.specs.Prelude.{ℕ, ◌+◌, ◌≤◌, ◌<◌, ◌≡◌, List, [], ◌∷◌, ◌++◌, Option, Some, None, length, take, eqb, leb}
 use Rattle.base.specs.Pick.{pick}
 use Rattle.base.specs.Part.{byte_at}
 use Rattle.base.specs.Walk.{from}
 use Rattle.encoding.specs.Scalar.{encode}
 use Rattle.string_literal.specs.declared.InString.{InString}
 use Rattle.string_literal.specs.declared.InString.TheVariants.{Character, Close, Bad}
-use Rattle.string_literal.specs.declared.Filled.{Filled}
-use Rattle.string_literal.specs.declared.Filled.TheVariants.{Count, TooMany}
 use Rattle.string_literal.specs.Char.{char_at}
 
 -- characters, then the closing quote and the place after it, or a place that holds no character
@@ -53,10 +51,10 @@ WithinChar n at Close = at < n
 WithinChar n at Bad = Unit
 
 -- how many characters there are, if a buffer of `size` places holds them
-unfoldable pub filled : ℕ → List ℕ → Filled
-filled size cs = pick (leb (length cs) size) (Count (length cs)) TooMany
+unfoldable pub filled : ℕ → List ℕ → Option ℕ
+filled size cs = pick (leb (length cs) size) (Some (length cs)) None
 
 -- the buffer starts with the characters, if there are not too many
-abbrev pub Holds : List ℕ → List ℕ → Filled → Type 0
-Holds cs out (Count n) = take n out ≡ cs
-Holds cs out TooMany = Unit
+abbrev pub Holds : List ℕ → List ℕ → Option ℕ → Type 0
+Holds cs out (Some n) = take n out ≡ cs
+Holds cs out None = Unit

@@ -1,13 +1,13 @@
 // String literals of a query, one character after the other, unescaped.
 #![tactic(auto)]
 
-ghost use Rattle.std.specs.Prelude.{◌≡◌, ℕ, ◌+◌, ◌-◌, ◌≤◌, ◌<◌, length};
-ghost use Rattle.base.specs.Pick.{pick};
-ghost use Rattle.string_literal.specs.Char.{unicode_char, raw_at, plain_escape, hex_run, unicode_escape, escape_at, char_at};
+ghost use Rattle.std.specs.Prelude.{◌≡◌, ◌≤◌, length};
+ghost use Rattle.scan.specs.Ends.{Ends};
+ghost use Rattle.string_literal.specs.Char.{unicode_char, raw_at, hex_run, unicode_escape, escape_at, char_at};
 ghost use Rattle.string_literal.specs.Text.{text_at, characters_of, end_or, string_literal, filled, Holds, WithinChar};
 
 use base::bytes::{byte_at, piece};
-use base::digit::{Size, read_value};
+use base::digit::read_value;
 use encoding::scalar::{is_scalar_value, scalar_of};
 use encoding::sequence::sequence_at;
 use scan::{Class, run_end};
@@ -20,17 +20,11 @@ pub enum InString {
     Bad,
 }
 
-fn choose(t: bool, a: u32, b: u32) -> u32
-    ensures { result ≡ pick t a b }
-{
-    if t { a } else { b }
-}
-
+#[tactic(auto, unfolding(crate::specs::Char::unicode_char, base::specs::Range::within))]
 pub fn is_unicode_char(v: u32) -> bool
     ensures { result ≡ unicode_char v }
 {
-    ((0x20 <= v) & (v <= 0xd7ff))
-        | (((0xe000 <= v) & (v <= 0xfffd)) | ((0x10000 <= v) & (v <= 0x10ffff)))
+    matches!(v, 0x20..=0xd7ff | 0xe000..=0xfffd | 0x10000..=0x10ffff)
 }
 
 // A byte of ASCII from the blank on is a character; other characters are decoded.
@@ -39,7 +33,7 @@ fn raw_at(q: &[u8], at: usize) -> InString
 {
     let b = byte_at(q, at);
     if (b' ' <= b) & (b < 0x80) {
-        return InString::Character(b as u32, at + 1);
+        return InString::Character(u32::from(b), at + 1);
     }
     let n = sequence_at(q, at);
     if n == 0 {
@@ -52,29 +46,14 @@ fn raw_at(q: &[u8], at: usize) -> InString
     InString::Bad
 }
 
-fn plain_escape(b: u8) -> u32
-    ensures { result ≡ plain_escape b }
-{
-    let r = choose(b == b'r', 13, 0);
-    let f = choose(b == b'f', 12, r);
-    let n = choose(b == b'n', 10, f);
-    let t = choose(b == b't', 9, n);
-    let s = choose(b == b'b', 8, t);
-    let o = choose(b == b'\'', 39, s);
-    choose(b == b'\\', 92, o)
-}
-
 // 01: "`\u` takes the longest run of 4 to 6 hex digits".
 const LONGEST_RUN: usize = 6;
 
+#[tactic(auto, using(crate::proofs::Laws::hex_run_least))]
 fn hex_run(q: &[u8], at: usize) -> usize
     ensures { result ≡ hex_run q.now at }
 {
-    let n = run_end(Class::Digit(16), q, at) - at;
-    if n < LONGEST_RUN {
-        return n;
-    }
-    LONGEST_RUN
+    (run_end(Class::Digit(16), q, at) - at).min(LONGEST_RUN)
 }
 
 fn unicode_escape(q: &[u8], at: usize) -> InString
@@ -84,29 +63,31 @@ fn unicode_escape(q: &[u8], at: usize) -> InString
     if n < 4 {
         return InString::Bad;
     }
-    match read_value(16, 0, q, at, n, 0x10ffff) {
-        Size::Fits(v) => {
-            let c = v as u32;
-            if is_scalar_value(c) {
-                return InString::Character(c, at + n);
-            }
-            InString::Bad
-        }
-        Size::TooLarge => InString::Bad,
+    let Some(v) = read_value(16, 0, q, at, n, 0x10ffff) else {
+        return InString::Bad;
+    };
+    let c = v as u32;
+    if is_scalar_value(c) {
+        return InString::Character(c, at + n);
     }
+    InString::Bad
 }
 
+#[tactic(auto, unfolding(crate::specs::Char::escape_at, crate::specs::Char::plain_escape))]
 fn escape_at(q: &[u8], at: usize) -> InString
     ensures { result ≡ escape_at q.now at }
 {
-    let b = byte_at(q, at);
-    if b == b'u' {
-        return unicode_escape(q, at + 1);
-    }
-    let v = plain_escape(b);
-    if v == 0 {
-        return InString::Bad;
-    }
+    let v = match byte_at(q, at) {
+        b'u' => return unicode_escape(q, at + 1),
+        b'\\' => 92,
+        b'\'' => 39,
+        b'b' => 8,
+        b't' => 9,
+        b'n' => 10,
+        b'f' => 12,
+        b'r' => 13,
+        _ => return InString::Bad,
+    };
     InString::Character(v, at + 1)
 }
 
@@ -136,15 +117,9 @@ fn text_end(q: &[u8], at: usize, none: usize) -> usize
             i += 1;
         } else {
             match char_in_string(q, i) {
-                InString::Character(_, next) => {
-                    i = next;
-                }
-                InString::Close => {
-                    return i + 1;
-                }
-                InString::Bad => {
-                    return none;
-                }
+                InString::Character(_, next) => i = next,
+                InString::Close => return i + 1,
+                InString::Bad => return none,
             }
         }
     }
@@ -152,8 +127,9 @@ fn text_end(q: &[u8], at: usize, none: usize) -> usize
 }
 
 // The end of the string literal at a place; the place itself if there is none.
+#[tactic(auto, using(scan::proofs::Ends::reached, crate::proofs::Ends::string_ends), unfolding(crate::specs::Text::string_literal))]
 pub fn string_literal(q: &[u8], at: usize) -> usize
-    ensures { (result ≡ string_literal q.now at) × (at ≤ result) × (result - at ≤ length q.now - at) }
+    ensures { (result ≡ string_literal q.now at) × Ends (length q.now) at result }
 {
     if byte_at(q, at) == b'\'' {
         return text_end(q, at + 1, at);
@@ -161,15 +137,8 @@ pub fn string_literal(q: &[u8], at: usize) -> usize
     at
 }
 
-// How many characters were put into a buffer, or that it was too small for them.
-#[derive(Drop)]
-pub enum Filled {
-    Count(usize),
-    TooMany,
-}
-
-// Puts the characters of the literal whose text starts at a place into a buffer.
-pub fn fill(q: &[u8], at: usize, out: &mut [u32]) -> Filled
+// Puts the characters of the literal whose text starts at a place into a buffer, and gives how many they are; `None` where it is too small for them.
+pub fn fill(q: &[u8], at: usize, out: &mut [u32]) -> Option<usize>
     ensures { (result ≡ filled (length out.old) (characters_of (text_at q.now at))) × Holds (characters_of (text_at q.now at)) out.new result }
 {
     let mut i = at;
@@ -178,19 +147,14 @@ pub fn fill(q: &[u8], at: usize, out: &mut [u32]) -> Filled
         match char_in_string(q, i) {
             InString::Character(v, next) => {
                 if out.len() <= n {
-                    return Filled::TooMany;
+                    return None;
                 }
                 out[n] = v;
                 n += 1;
                 i = next;
             }
-            InString::Close => {
-                return Filled::Count(n);
-            }
-            InString::Bad => {
-                return Filled::Count(n);
-            }
+            InString::Close | InString::Bad => return Some(n),
         }
     }
-    Filled::Count(n)
+    Some(n)
 }

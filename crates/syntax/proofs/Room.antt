@@ -1,4 +1,5 @@
 -- The number of names that a path may have in the definition, one more than the text has bytes, is never reached.
+use Rattle.std.specs.Prelude.{Err, Ok, Result}
 use Prim.Native.Nat.{ℕ, zero, suc, ◌+◌, ◌-◌, ◌<◌}
 use mathlib.Core.Path.{◌≡◌, refl, ◌∙◌}
 use mathlib.Core.List.{List}
@@ -13,8 +14,6 @@ use Rattle.token.proofs.Bounds.{after_from, after_moves}
 use Rattle.terminal.specs.Terminal.{same, word}
 use Rattle.terminal.proofs.Inside.{inside_token, word_inside}
 use Rattle.syntax.specs.declared.path.Path.{Path}
-use Rattle.syntax.specs.declared.path.PathResult.{PathResult}
-use Rattle.syntax.specs.declared.path.PathResult.TheVariants.{HasPath, NoPath}
 use Rattle.syntax.specs.Scan.{Scan, scan}
 use Rattle.syntax.specs.Property.{dotted, one_more}
 
@@ -34,14 +33,14 @@ module _ (s : Scan) where
   Roomy = (p : Path) (t : Token) → dotted (suc s.size) s p t ≡ dotted s.size s p t
 
   word_cong : (a b : ℕ) (p : Path) (t : Token) (d : Bool) → ((x : Path) (y : Token) → dotted a s x y ≡ dotted b s x y)
-      → ◌≡◌ {A = PathResult} (elim d [ true ↦ dotted a s (one_more p (s.next t)) (s.next (s.next t)) | false ↦ NoPath (s.next t).start ])
-      (elim d [ true ↦ dotted b s (one_more p (s.next t)) (s.next (s.next t)) | false ↦ NoPath (s.next t).start ])
+      → ◌≡◌ {A = Result (Path × Token) ℕ} (elim d [ true ↦ dotted a s (one_more p (s.next t)) (s.next (s.next t)) | false ↦ Err (s.next t).start ])
+      (elim d [ true ↦ dotted b s (one_more p (s.next t)) (s.next (s.next t)) | false ↦ Err (s.next t).start ])
   word_cong a b p t true e = e (one_more p (s.next t)) (s.next (s.next t))
   word_cong a b p t false e = refl
 
   dot_cong : (a b : ℕ) (p : Path) (t : Token) (d : Bool) → ((x : Path) (y : Token) → dotted a s x y ≡ dotted b s x y)
-      → ◌≡◌ {A = PathResult} (elim d [ true ↦ elim (word (s.next t)) [ true ↦ dotted a s (one_more p (s.next t)) (s.next (s.next t)) | false ↦ NoPath (s.next t).start ] | false ↦ HasPath p t ])
-      (elim d [ true ↦ elim (word (s.next t)) [ true ↦ dotted b s (one_more p (s.next t)) (s.next (s.next t)) | false ↦ NoPath (s.next t).start ] | false ↦ HasPath p t ])
+      → ◌≡◌ {A = Result (Path × Token) ℕ} (elim d [ true ↦ elim (word (s.next t)) [ true ↦ dotted a s (one_more p (s.next t)) (s.next (s.next t)) | false ↦ Err (s.next t).start ] | false ↦ Ok (p, t) ])
+      (elim d [ true ↦ elim (word (s.next t)) [ true ↦ dotted b s (one_more p (s.next t)) (s.next (s.next t)) | false ↦ Err (s.next t).start ] | false ↦ Ok (p, t) ])
   dot_cong a b p t true e = word_cong a b p t (word (s.next t)) e
   dot_cong a b p t false e = refl
 
@@ -63,9 +62,9 @@ module _ (s : Scan) (left : Token → ℕ) (less : (t : Token) → word (s.next 
     where
       go : (b d : Bool) → word (s.next t) ≡ d
           → (left (s.next (s.next t)) < m → dotted (suc m) s (one_more p (s.next t)) (s.next (s.next t)) ≡ dotted m s (one_more p (s.next t)) (s.next (s.next t)))
-          → ◌≡◌ {A = PathResult}
-          (elim b [ true ↦ elim d [ true ↦ dotted (suc m) s (one_more p (s.next t)) (s.next (s.next t)) | false ↦ NoPath (s.next t).start ] | false ↦ HasPath p t ])
-          (elim b [ true ↦ elim d [ true ↦ dotted m s (one_more p (s.next t)) (s.next (s.next t)) | false ↦ NoPath (s.next t).start ] | false ↦ HasPath p t ])
+          → ◌≡◌ {A = Result (Path × Token) ℕ}
+          (elim b [ true ↦ elim d [ true ↦ dotted (suc m) s (one_more p (s.next t)) (s.next (s.next t)) | false ↦ Err (s.next t).start ] | false ↦ Ok (p, t) ])
+          (elim b [ true ↦ elim d [ true ↦ dotted m s (one_more p (s.next t)) (s.next (s.next t)) | false ↦ Err (s.next t).start ] | false ↦ Ok (p, t) ])
       go true true w ih = ih (omega (arith, less t w))
       go true false w ih = refl
       go false d w ih = refl

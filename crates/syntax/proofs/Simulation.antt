@@ -1,6 +1,7 @@
 -- The readers of a comparison over two texts whose tokens correspond: what is read in one corresponds to what is read in the other and ends at corresponding tokens, and what is
 -- refused in one is refused in the other at corresponding tokens. A comparison has no token ")", and none at the end or where nothing stands: at such tokens the texts may differ.
 -- They may also correspond only up to a place: then nothing is said where the first reading gets past it.
+use Rattle.std.specs.Prelude.{Err, None, Ok, Option, Result, Some}
 use Prim.Native.Nat.{ℕ, zero, suc, ◌+◌}
 use mathlib.Core.Path.{◌≡◌, refl, sym, ap, ◌∙◌, subst}
 use mathlib.Core.Logic.{◌⊎◌, inl, inr}
@@ -15,35 +16,16 @@ use Rattle.token.specs.declared.TokenKind.{TokenKind}
 use Rattle.token.specs.declared.TokenKind.TheVariants.{End, NoToken, Name, Word, Text, Symbol}
 use Rattle.token.specs.declared.Token.{Token}
 use Rattle.terminal.specs.declared.quantifier.Quantifier.{Quantifier}
-use Rattle.terminal.specs.declared.quantifier.Quantifier.TheVariants as Quantifier
-use Rattle.terminal.specs.declared.operator.Comparing.{Comparing}
-use Rattle.terminal.specs.declared.operator.Comparing.TheVariants.{By, NoOperator}
 use Rattle.terminal.specs.Terminal.{same, code, word, word_kind, literal, literal_kind, comparing, comparing_kind, joining, quantifying, equality, inside}
 use Rattle.terminal.proofs.KindCodes.{kind_is}
 use Rattle.terminal.proofs.Inside.{outside_cases, outside_other}
 use Rattle.syntax.specs.declared.path.Path.{Path}
-use Rattle.syntax.specs.declared.path.Index.{Index}
-use Rattle.syntax.specs.declared.path.Index.TheVariants.{Whole, At}
-use Rattle.syntax.specs.declared.path.PathResult.{PathResult}
-use Rattle.syntax.specs.declared.path.PathResult.TheVariants.{HasPath, NoPath}
-use Rattle.syntax.specs.declared.path.IndexResult.{IndexResult}
-use Rattle.syntax.specs.declared.path.IndexResult.TheVariants.{HasIndex, NoIndex}
-use Rattle.syntax.specs.declared.path.ReferenceResult.{ReferenceResult}
-use Rattle.syntax.specs.declared.path.ReferenceResult.TheVariants.{HasReference, NoReference}
 use Rattle.syntax.specs.declared.operation.Operation.{Operation}
 use Rattle.syntax.specs.declared.operation.Operation.TheVariants.{Compare, Like, NotLike}
-use Rattle.syntax.specs.declared.operation.OperationResult.{OperationResult}
-use Rattle.syntax.specs.declared.operation.OperationResult.TheVariants.{HasOperation, NoOperation}
 use Rattle.syntax.specs.declared.left_side.LeftSide.{LeftSide}
-use Rattle.syntax.specs.declared.left_side.LeftResult.{LeftResult}
-use Rattle.syntax.specs.declared.left_side.LeftResult.TheVariants.{HasLeft, NoLeft}
 use Rattle.syntax.specs.declared.right_side.RightSide.{RightSide}
 use Rattle.syntax.specs.declared.right_side.RightSide.TheVariants.{Literal, Elements, Property, Pattern}
-use Rattle.syntax.specs.declared.right_side.RightResult.{RightResult}
-use Rattle.syntax.specs.declared.right_side.RightResult.TheVariants.{HasRight, NoRight}
 use Rattle.syntax.specs.declared.comparison.Comparison.{Comparison}
-use Rattle.syntax.specs.declared.comparison.ComparisonResult.{ComparisonResult}
-use Rattle.syntax.specs.declared.comparison.ComparisonResult.TheVariants.{HasComparison, NoComparison}
 use Rattle.syntax.specs.declared.fault.Cause.{Cause}
 use Rattle.syntax.specs.declared.fault.Cause.TheVariants.{Grammar, Limit}
 use Rattle.syntax.specs.Scan.{Scan, fault, limited, skip}
@@ -51,6 +33,7 @@ use Rattle.syntax.specs.Property.{first_name, one_more, dotted, property, close_
 use Rattle.syntax.specs.Comparison.{single, plain, left_of, left_by, left_at, left_side, not_like, like, operation_by, operation, elements, list_from, array_literal, operand_of, operand, pattern, right_side, comp_of, comp_operation, comp_left, property_comp}
 use Rattle.syntax.proofs.Room.{up, up_adds, Roomy, room}
 use Rattle.syntax.proofs.Onward.{path_place, index_place, reference_place, left_place, operation_place, right_place, comparison_place, after_dot, after_element, Onward, dots_on, after_dot_on, property_on, close_on, number_on, indexed_on, with_index_on, with_path_on, left_of_on, left_at_on, left_on, not_like_on, operation_on, elements_on, after_element_on, list_on, operand_of_on, operand_on, pattern_on, comp_of_on, comp_operation_on, comp_left_on}
+use Rattle.syntax.specs.declared.fault.Fault.{Fault}
 
 -- ---- two readings whose tokens correspond
 -- what a reader can ask of a token has the same answer for both
@@ -82,9 +65,9 @@ module _ (s z : Scan) (R : Token → Token → Type 0) where
     one_name : {t u : Token} → Both t u → Paths (first_name t) (first_name u)
     more_names : {p o : Path} {t u : Token} → Paths p o → Both t u → Paths (one_more p t) (one_more o u)
 
-  pub data Indices : Index → Index → Type 0 where
-    no_index : Indices Whole Whole
-    an_index : {t u : Token} → Both t u → Indices (At t) (At u)
+  pub data Indices : Option Token → Option Token → Type 0 where
+    no_index : Indices None None
+    an_index : {t u : Token} → Both t u → Indices (Some t) (Some u)
 
   pub record Lefts (a b : LeftSide) : Type 0 where
     pub negations : a.negated ≡ b.negated
@@ -100,7 +83,7 @@ module _ (s z : Scan) (R : Token → Token → Type 0) where
   pub data Rights : RightSide → RightSide → Type 0 where
     literals : {t u : Token} → Both t u → Rights (Literal t) (Literal u)
     lists : {t u v w : Token} {n e d : ℕ} → Both t u → ElementsOf (s.next t) (z.next u) n v w → Rights (Elements t.start n e) (Elements u.start n d)
-    properties : {p o : Path} {i j : Index} → Paths p o → Indices i j → Rights (Property p i) (Property o j)
+    properties : {p o : Path} {i j : Option Token} → Paths p o → Indices i j → Rights (Property p i) (Property o j)
     patterns : {t u : Token} → Both t u → t.kind ≡ Text → Rights (Pattern t) (Pattern u)
 
   pub record Comparisons (c d : Comparison) : Type 0 where
@@ -108,9 +91,9 @@ module _ (s z : Scan) (R : Token → Token → Type 0) where
     pub operations : c.operation ≡ d.operation
     pub rights : Rights c.right d.right
 
-  pub data ComparisonResults : ComparisonResult → ComparisonResult → Type 0 where
-    has : {c d : Comparison} {t u : Token} → Comparisons c d → R t u → ComparisonResults (HasComparison c t) (HasComparison d u)
-    no : (c : Cause) (t u : Token) → R t u → ComparisonResults (NoComparison (fault c t.start)) (NoComparison (fault c u.start))
+  pub data ComparisonResults : Result (Comparison × Token) Fault → Result (Comparison × Token) Fault → Type 0 where
+    has : {c d : Comparison} {t u : Token} → Comparisons c d → R t u → ComparisonResults (Ok (c, t)) (Ok (d, u))
+    no : (c : Cause) (t u : Token) → R t u → ComparisonResults (Err (fault c t.start)) (Err (fault c u.start))
 
 -- ---- what two readers say, unless the first has got past the place
 module _ (s z : Scan) (R : Token → Token → Type 0) (Past : ℕ → Type 0) where
@@ -118,40 +101,40 @@ module _ (s z : Scan) (R : Token → Token → Type 0) (Past : ℕ → Type 0) w
   abbrev pub Meets : Token → Token → Type 0
   Meets t u = R t u ⊎ Past t.start
 
-  data PathOutcomes : PathResult → PathResult → Type 0 where
-    has : {p o : Path} {t u : Token} → Paths s z R p o → Meets t u → PathOutcomes (HasPath p t) (HasPath o u)
-    no : (t u : Token) → R t u → PathOutcomes (NoPath t.start) (NoPath u.start)
-    past : {x y : PathResult} → Past (path_place x) → PathOutcomes x y
+  data PathOutcomes : Result (Path × Token) ℕ → Result (Path × Token) ℕ → Type 0 where
+    has : {p o : Path} {t u : Token} → Paths s z R p o → Meets t u → PathOutcomes (Ok (p, t)) (Ok (o, u))
+    no : (t u : Token) → R t u → PathOutcomes (Err t.start) (Err u.start)
+    past : {x y : Result (Path × Token) ℕ} → Past (path_place x) → PathOutcomes x y
 
-  data IndexOutcomes : IndexResult → IndexResult → Type 0 where
-    has : {i j : Index} {t u : Token} → Indices s z R i j → Meets t u → IndexOutcomes (HasIndex i t) (HasIndex j u)
-    no : (t u : Token) → R t u → IndexOutcomes (NoIndex t.start) (NoIndex u.start)
-    past : {x y : IndexResult} → Past (index_place x) → IndexOutcomes x y
+  data IndexOutcomes : Result (Option Token × Token) ℕ → Result (Option Token × Token) ℕ → Type 0 where
+    has : {i j : Option Token} {t u : Token} → Indices s z R i j → Meets t u → IndexOutcomes (Ok (i, t)) (Ok (j, u))
+    no : (t u : Token) → R t u → IndexOutcomes (Err t.start) (Err u.start)
+    past : {x y : Result (Option Token × Token) ℕ} → Past (index_place x) → IndexOutcomes x y
 
-  data ReferenceOutcomes : ReferenceResult → ReferenceResult → Type 0 where
-    has : {p o : Path} {i j : Index} {t u : Token} → Paths s z R p o → Indices s z R i j → Meets t u → ReferenceOutcomes (HasReference p i t) (HasReference o j u)
-    no : (t u : Token) → R t u → ReferenceOutcomes (NoReference t.start) (NoReference u.start)
-    past : {x y : ReferenceResult} → Past (reference_place x) → ReferenceOutcomes x y
+  data ReferenceOutcomes : Result (Path × Option Token × Token) ℕ → Result (Path × Option Token × Token) ℕ → Type 0 where
+    has : {p o : Path} {i j : Option Token} {t u : Token} → Paths s z R p o → Indices s z R i j → Meets t u → ReferenceOutcomes (Ok (p, i, t)) (Ok (o, j, u))
+    no : (t u : Token) → R t u → ReferenceOutcomes (Err t.start) (Err u.start)
+    past : {x y : Result (Path × Option Token × Token) ℕ} → Past (reference_place x) → ReferenceOutcomes x y
 
-  data LeftOutcomes : LeftResult → LeftResult → Type 0 where
-    has : {a b : LeftSide} {t u : Token} → Lefts s z R a b → Meets t u → LeftOutcomes (HasLeft a t) (HasLeft b u)
-    no : (t u : Token) → R t u → LeftOutcomes (NoLeft t.start) (NoLeft u.start)
-    past : {x y : LeftResult} → Past (left_place x) → LeftOutcomes x y
+  data LeftOutcomes : Result (LeftSide × Token) ℕ → Result (LeftSide × Token) ℕ → Type 0 where
+    has : {a b : LeftSide} {t u : Token} → Lefts s z R a b → Meets t u → LeftOutcomes (Ok (a, t)) (Ok (b, u))
+    no : (t u : Token) → R t u → LeftOutcomes (Err t.start) (Err u.start)
+    past : {x y : Result (LeftSide × Token) ℕ} → Past (left_place x) → LeftOutcomes x y
 
-  data OperationOutcomes : OperationResult → OperationResult → Type 0 where
-    has : {v w : Operation} {t u : Token} → v ≡ w → Meets t u → OperationOutcomes (HasOperation v t) (HasOperation w u)
-    no : (t u : Token) → R t u → OperationOutcomes (NoOperation t.start) (NoOperation u.start)
-    past : {x y : OperationResult} → Past (operation_place x) → OperationOutcomes x y
+  data OperationOutcomes : Result (Operation × Token) ℕ → Result (Operation × Token) ℕ → Type 0 where
+    has : {v w : Operation} {t u : Token} → v ≡ w → Meets t u → OperationOutcomes (Ok (v, t)) (Ok (w, u))
+    no : (t u : Token) → R t u → OperationOutcomes (Err t.start) (Err u.start)
+    past : {x y : Result (Operation × Token) ℕ} → Past (operation_place x) → OperationOutcomes x y
 
-  data RightOutcomes : RightResult → RightResult → Type 0 where
-    has : {a b : RightSide} {t u : Token} → Rights s z R a b → Meets t u → RightOutcomes (HasRight a t) (HasRight b u)
-    no : (c : Cause) (t u : Token) → R t u → RightOutcomes (NoRight (fault c t.start)) (NoRight (fault c u.start))
-    past : {x y : RightResult} → Past (right_place x) → RightOutcomes x y
+  data RightOutcomes : Result (RightSide × Token) Fault → Result (RightSide × Token) Fault → Type 0 where
+    has : {a b : RightSide} {t u : Token} → Rights s z R a b → Meets t u → RightOutcomes (Ok (a, t)) (Ok (b, u))
+    no : (c : Cause) (t u : Token) → R t u → RightOutcomes (Err (fault c t.start)) (Err (fault c u.start))
+    past : {x y : Result (RightSide × Token) Fault} → Past (right_place x) → RightOutcomes x y
 
-  pub data ComparisonOutcomes : ComparisonResult → ComparisonResult → Type 0 where
-    has : {c d : Comparison} {t u : Token} → Comparisons s z R c d → Meets t u → ComparisonOutcomes (HasComparison c t) (HasComparison d u)
-    no : (c : Cause) (t u : Token) → R t u → ComparisonOutcomes (NoComparison (fault c t.start)) (NoComparison (fault c u.start))
-    past : {x y : ComparisonResult} → Past (comparison_place x) → ComparisonOutcomes x y
+  pub data ComparisonOutcomes : Result (Comparison × Token) Fault → Result (Comparison × Token) Fault → Type 0 where
+    has : {c d : Comparison} {t u : Token} → Comparisons s z R c d → Meets t u → ComparisonOutcomes (Ok (c, t)) (Ok (d, u))
+    no : (c : Cause) (t u : Token) → R t u → ComparisonOutcomes (Err (fault c t.start)) (Err (fault c u.start))
+    past : {x y : Result (Comparison × Token) Fault} → Past (comparison_place x) → ComparisonOutcomes x y
 
 module _ {s z : Scan} {R : Token → Token → Type 0} (T : Tests s z R) where
   -- ---- tests of corresponding tokens
@@ -182,7 +165,7 @@ module _ {s z : Scan} {R : Token → Token → Type 0} (T : Tests s z R) where
 
     comparing_still : comparing t ≡ comparing u
     unfolding comparing
-    comparing_still = by_kind comparing_kind NoOperator refl refl refl
+    comparing_still = by_kind comparing_kind None refl refl refl
 
     quantifying_still : quantifying t ≡ quantifying u
     unfolding quantifying
@@ -242,7 +225,7 @@ module _ {s z : Scan} {R : Token → Token → Type 0} {Past : ℕ → Type 0} (
       second (inl w) k = rw (word_still T w) (named w (word (z.next u)) refl k)
 
       go : (c : Bool) → same u (Symbol Dot) ≡ c → MoreNames n (s.next (s.next t)) (z.next (z.next u))
-          → PathOutcomes s z R Past (elim c [ true ↦ after_dot n s p t (word (s.next t)) | false ↦ HasPath p t ]) (elim c [ true ↦ after_dot n z o u (word (z.next u)) | false ↦ HasPath o u ])
+          → PathOutcomes s z R Past (elim c [ true ↦ after_dot n s p t (word (s.next t)) | false ↦ Ok (p, t) ]) (elim c [ true ↦ after_dot n z o u (word (z.next u)) | false ↦ Ok (o, u) ])
       go true e k = second (next_by_law (both_same T r (Symbol Dot) refl e)) k
       go false e k = has h (inl r)
 
@@ -250,8 +233,8 @@ module _ {s z : Scan} {R : Token → Token → Type 0} {Past : ℕ → Type 0} (
     -- each definition allows as many names as it likes, if they are enough
     sized_alike : {p o : Path} → Paths s z R p o → {t u : Token} → Meets s z R Past t u → PathOutcomes s z R Past (dotted s.size s p t) (dotted z.size z o u)
     sized_alike {p} {o} h {t} {u} m =
-        subst (λ (x : PathResult). PathOutcomes s z R Past x (dotted z.size z o u)) (room s enough z.size p t)
-        (subst (λ (x : PathResult). PathOutcomes s z R Past (dotted (up z.size s.size) s p t) x) (ap (λ (n : ℕ). dotted n z o u) swapped ∙ room z other-enough s.size o u)
+        subst (λ (x : Result (Path × Token) ℕ). PathOutcomes s z R Past x (dotted z.size z o u)) (room s enough z.size p t)
+        (subst (λ (x : Result (Path × Token) ℕ). PathOutcomes s z R Past (dotted (up z.size s.size) s p t) x) (ap (λ (n : ℕ). dotted n z o u) swapped ∙ room z other-enough s.size o u)
         (dots_alike (up z.size s.size) h m))
       where
         swapped : up z.size s.size ≡ up s.size z.size
@@ -263,7 +246,7 @@ module _ {s z : Scan} {R : Token → Token → Type 0} {Past : ℕ → Type 0} (
     property_alike {t} {u} (inl r) = rw (same_still T r Name refl) (go (same u Name) refl)
       where
         go : (c : Bool) → same u Name ≡ c
-            → PathOutcomes s z R Past (pick c (dotted s.size s (first_name t) (s.next t)) (NoPath t.start)) (pick c (dotted z.size z (first_name u) (z.next u)) (NoPath u.start))
+            → PathOutcomes s z R Past (pick c (dotted s.size s (first_name t) (s.next t)) (Err t.start)) (pick c (dotted z.size z (first_name u) (z.next u)) (Err u.start))
         go true e = let b = both_same T r Name refl e in sized_alike (one_name b) (next_by_law b)
         go false e = no t u r
 
@@ -272,7 +255,7 @@ module _ {s z : Scan} {R : Token → Token → Type 0} {Past : ℕ → Type 0} (
     close_alike {t} {u} {v} {w} b (inr f) = past (close_on O t v f)
     close_alike {t} {u} {v} {w} b (inl r) = rw (same_still T r (Symbol CloseIndex) refl) (go (same w (Symbol CloseIndex)) refl)
       where
-        go : (c : Bool) → same w (Symbol CloseIndex) ≡ c → IndexOutcomes s z R Past (pick c (HasIndex (At t) (s.next v)) (NoIndex v.start)) (pick c (HasIndex (At u) (z.next w)) (NoIndex w.start))
+        go : (c : Bool) → same w (Symbol CloseIndex) ≡ c → IndexOutcomes s z R Past (pick c (Ok (Some t, s.next v)) (Err v.start)) (pick c (Ok (Some u, z.next w)) (Err w.start))
         go true e = has (an_index b) (next_by_law (both_same T r (Symbol CloseIndex) refl e))
         go false e = no v w r
 
@@ -285,7 +268,7 @@ module _ {s z : Scan} {R : Token → Token → Type 0} {Past : ℕ → Type 0} (
         within e true h = refl
         within e false h = absurd (false≢true (sym (T.outer t u r h).1 ∙ e))
 
-        go : (c : Bool) → z.unsigned u ≡ c → IndexOutcomes s z R Past (pick c (close_index s t (s.next t)) (NoIndex t.start)) (pick c (close_index z u (z.next u)) (NoIndex u.start))
+        go : (c : Bool) → z.unsigned u ≡ c → IndexOutcomes s z R Past (pick c (close_index s t (s.next t)) (Err t.start)) (pick c (close_index z u (z.next u)) (Err u.start))
         go true e = let b : Both s z R t u = record { are = r; within = within e (inside t.kind) refl } in close_alike b (next_by_law b)
         go false e = no t u r
 
@@ -294,7 +277,7 @@ module _ {s z : Scan} {R : Token → Token → Type 0} {Past : ℕ → Type 0} (
     index_alike allowed {t} {u} (inr f) = past (indexed_on O allowed t f)
     index_alike allowed {t} {u} (inl r) = rw (same_still T r (Symbol OpenIndex) refl) (go allowed (same u (Symbol OpenIndex)) refl)
       where
-        go : (a c : Bool) → same u (Symbol OpenIndex) ≡ c → IndexOutcomes s z R Past (pick (a && c) (index_number s (s.next t)) (HasIndex Whole t)) (pick (a && c) (index_number z (z.next u)) (HasIndex Whole u))
+        go : (a c : Bool) → same u (Symbol OpenIndex) ≡ c → IndexOutcomes s z R Past (pick (a && c) (index_number s (s.next t)) (Ok (None, t))) (pick (a && c) (index_number z (z.next u)) (Ok (None, u)))
         go true true e = number_alike (next_by_law (both_same T r (Symbol OpenIndex) refl e))
         go true false e = has no_index (inl r)
         go false c e = has no_index (inl r)
@@ -303,13 +286,13 @@ module _ {s z : Scan} {R : Token → Token → Type 0} {Past : ℕ → Type 0} (
     unfolding reference with_path with_index
     reference_alike allowed {t} {u} m = go (property s t) (property z u) (property_alike m)
       where
-        then : {p o : Path} → Paths s z R p o → (a b : IndexResult) → IndexOutcomes s z R Past a b → ReferenceOutcomes s z R Past (with_index p a) (with_index o b)
-        then h (HasIndex i v) (HasIndex j w) (has x y) = has h x y
+        then : {p o : Path} → Paths s z R p o → (a b : Result (Option Token × Token) ℕ) → IndexOutcomes s z R Past a b → ReferenceOutcomes s z R Past (with_index p a) (with_index o b)
+        then h (Ok (i, v)) (Ok (j, w)) (has x y) = has h x y
         then h a b (no v w r) = no v w r
         then {p} h a b (past f) = past (with_index_on O p a f)
 
-        go : (a b : PathResult) → PathOutcomes s z R Past a b → ReferenceOutcomes s z R Past (with_path s allowed a) (with_path z allowed b)
-        go (HasPath p v) (HasPath o w) (has x y) = then x (indexed s allowed v) (indexed z allowed w) (index_alike allowed y)
+        go : (a b : Result (Path × Token) ℕ) → PathOutcomes s z R Past a b → ReferenceOutcomes s z R Past (with_path s allowed a) (with_path z allowed b)
+        go (Ok (p, v)) (Ok (o, w)) (has x y) = then x (indexed s allowed v) (indexed z allowed w) (index_alike allowed y)
         go a b (no v w r) = no v w r
         go a b (past f) = past (with_path_on O allowed a f)
 
@@ -318,9 +301,9 @@ module _ {s z : Scan} {R : Token → Token → Type 0} {Past : ℕ → Type 0} (
     skip_alike true r f = next_by_law (f refl)
     skip_alike false r f = inl r
 
-    left_of_alike : (m n : ℕ) (negated : Bool) (k : Quantifier) (a b : ReferenceResult) → ReferenceOutcomes s z R Past a b → LeftOutcomes s z R Past (left_of m negated k a) (left_of n negated k b)
+    left_of_alike : (m n : ℕ) (negated : Bool) (k : Quantifier) (a b : Result (Path × Option Token × Token) ℕ) → ReferenceOutcomes s z R Past a b → LeftOutcomes s z R Past (left_of m negated k a) (left_of n negated k b)
     unfolding left_of
-    left_of_alike m n negated k (HasReference p i t) (HasReference o j u) (has x y r) = has (record { negations = refl; quantifiers = refl; paths = x; indices = y }) r
+    left_of_alike m n negated k (Ok (p, i, t)) (Ok (o, j, u)) (has x y r) = has (record { negations = refl; quantifiers = refl; paths = x; indices = y }) r
     left_of_alike m n negated k a b (no t u r) = no t u r
     left_of_alike m n negated k a b (past f) = past (left_of_on O m negated k a f)
 
@@ -339,8 +322,8 @@ module _ {s z : Scan} {R : Token → Token → Type 0} {Past : ℕ → Type 0} (
     left_at_alike m n negated {t} {u} (inr f) = past (left_at_on O m negated t f)
     left_at_alike m n negated {t} {u} (inl r) = rw (quantifying_still T r) (go (negated && single (quantifying u)))
       where
-        go : (c : Bool) → LeftOutcomes s z R Past (pick c (NoLeft t.start) (left_of m negated (quantifying u) (reference s (single (quantifying u)) (skip s (not (single (quantifying u))) t))))
-            (pick c (NoLeft u.start) (left_of n negated (quantifying u) (reference z (single (quantifying u)) (skip z (not (single (quantifying u))) u))))
+        go : (c : Bool) → LeftOutcomes s z R Past (pick c (Err t.start) (left_of m negated (quantifying u) (reference s (single (quantifying u)) (skip s (not (single (quantifying u))) t))))
+            (pick c (Err u.start) (left_of n negated (quantifying u) (reference z (single (quantifying u)) (skip z (not (single (quantifying u))) u))))
         go true = no t u r
         go false =
             left_of_alike m n negated (quantifying u) _ _
@@ -359,7 +342,7 @@ module _ {s z : Scan} {R : Token → Token → Type 0} {Past : ℕ → Type 0} (
     not_like_alike {t} {u} (inr f) = past (not_like_on O t f)
     not_like_alike {t} {u} (inl r) = rw (same_still T r (Word Reserved.Like) refl) (go (same u (Word Reserved.Like)) refl)
       where
-        go : (c : Bool) → same u (Word Reserved.Like) ≡ c → OperationOutcomes s z R Past (pick c (HasOperation NotLike (s.next t)) (NoOperation t.start)) (pick c (HasOperation NotLike (z.next u)) (NoOperation u.start))
+        go : (c : Bool) → same u (Word Reserved.Like) ≡ c → OperationOutcomes s z R Past (pick c (Ok (NotLike, s.next t)) (Err t.start)) (pick c (Ok (NotLike, z.next u)) (Err u.start))
         go true e = has refl (next_by_law (both_same T r (Word Reserved.Like) refl e))
         go false e = no t u r
 
@@ -369,8 +352,8 @@ module _ {s z : Scan} {R : Token → Token → Type 0} {Past : ℕ → Type 0} (
         rw (same_still T r (Word Reserved.Like) refl, same_still T r (Word Reserved.Not) refl) (go allowed (same u (Word Reserved.Like)) refl (same u (Word Reserved.Not)) refl)
       where
         go : (a c : Bool) → same u (Word Reserved.Like) ≡ c → (d : Bool) → same u (Word Reserved.Not) ≡ d
-            → OperationOutcomes s z R Past (pick (a && c) (HasOperation Like (s.next t)) (pick (a && d) (not_like s (s.next t)) (NoOperation t.start)))
-            (pick (a && c) (HasOperation Like (z.next u)) (pick (a && d) (not_like z (z.next u)) (NoOperation u.start)))
+            → OperationOutcomes s z R Past (pick (a && c) (Ok (Like, s.next t)) (pick (a && d) (not_like s (s.next t)) (Err t.start)))
+            (pick (a && c) (Ok (Like, z.next u)) (pick (a && d) (not_like z (z.next u)) (Err u.start)))
         go true true e d f = has refl (next_by_law (both_same T r (Word Reserved.Like) refl e))
         go true false e true f = not_like_alike (next_by_law (both_same T r (Word Reserved.Not) refl f))
         go true false e false f = no t u r
@@ -381,13 +364,13 @@ module _ {s z : Scan} {R : Token → Token → Type 0} {Past : ℕ → Type 0} (
     operation_alike alone {t} {u} (inr f) = past (operation_on O alone t f)
     operation_alike alone {t} {u} (inl r) = rw (comparing_still T r) (go (comparing u) refl)
       where
-        operates : Comparing → Bool
-        operates (By o) = true
-        operates NoOperator = false
+        operates : Option Operator → Bool
+        operates (Some o) = true
+        operates None = false
 
-        go : (c : Comparing) → comparing u ≡ c → OperationOutcomes s z R Past (operation_by s alone t c) (operation_by z alone u c)
-        go (By o) e = has refl (next_by_law (both_by T r (λ (k : TokenKind). operates (comparing_kind k)) refl refl refl (ap operates e)))
-        go NoOperator e = like_alike alone r
+        go : (c : Option Operator) → comparing u ≡ c → OperationOutcomes s z R Past (operation_by s alone t c) (operation_by z alone u c)
+        go (Some o) e = has refl (next_by_law (both_by T r (λ (k : TokenKind). operates (comparing_kind k)) refl refl refl (ap operates e)))
+        go None e = like_alike alone r
 
     -- ---- the right side
     abbrev MoreElements : ℕ → (a b : Token) → ℕ → (t u : Token) → Type 0
@@ -401,7 +384,7 @@ module _ {s z : Scan} {R : Token → Token → Type 0} {Past : ℕ → Type 0} (
     elements_alike zero {a} {b} x count {t} {u} l (inr f) = past (elements_on O zero a.start count t f)
     elements_alike zero {a} {b} x count {t} {u} l (inl r) = rw (literal_still T r) (go (literal u))
       where
-        go : (c : Bool) → RightOutcomes s z R Past (NoRight (limited c t.start)) (NoRight (limited c u.start))
+        go : (c : Bool) → RightOutcomes s z R Past (Err (limited c t.start)) (Err (limited c u.start))
         go true = no Limit t u r
         go false = no Grammar t u r
     elements_alike (suc n) {a} {b} x count {t} {u} l (inr f) = past (elements_on O (suc n) a.start count t f)
@@ -423,8 +406,8 @@ module _ {s z : Scan} {R : Token → Token → Type 0} {Past : ℕ → Type 0} (
 
         go : (c : Bool) → literal u ≡ c → MoreElements n a b count t u
             → RightOutcomes s z R Past
-            (elim c [ true ↦ after_element n s a.start count t (same (s.next t) (Symbol CloseList)) (same (s.next t) (Symbol Comma)) | false ↦ NoRight (fault Grammar t.start) ])
-            (elim c [ true ↦ after_element n z b.start count u (same (z.next u) (Symbol CloseList)) (same (z.next u) (Symbol Comma)) | false ↦ NoRight (fault Grammar u.start) ])
+            (elim c [ true ↦ after_element n s a.start count t (same (s.next t) (Symbol CloseList)) (same (s.next t) (Symbol Comma)) | false ↦ Err (fault Grammar t.start) ])
+            (elim c [ true ↦ after_element n z b.start count u (same (z.next u) (Symbol CloseList)) (same (z.next u) (Symbol Comma)) | false ↦ Err (fault Grammar u.start) ])
         go true e k = let y = both_by T r literal_kind refl refl refl e in second y (next_by_law y) k
         go false e k = no Grammar t u r
 
@@ -434,8 +417,8 @@ module _ {s z : Scan} {R : Token → Token → Type 0} {Past : ℕ → Type 0} (
     list_alike {a} {b} x (inl r) = rw (same_still T r (Symbol CloseList) refl) (go (same (z.next b) (Symbol CloseList)) refl)
       where
         go : (c : Bool) → same (z.next b) (Symbol CloseList) ≡ c
-            → RightOutcomes s z R Past (pick c (HasRight (Elements a.start 0 (s.next a).end) (s.next (s.next a))) (elements 32 s a.start 0 (s.next a)))
-            (pick c (HasRight (Elements b.start 0 (z.next b).end) (z.next (z.next b))) (elements 32 z b.start 0 (z.next b)))
+            → RightOutcomes s z R Past (pick c (Ok (Elements a.start 0 (s.next a).end, s.next (s.next a))) (elements 32 s a.start 0 (s.next a)))
+            (pick c (Ok (Elements b.start 0 (z.next b).end, z.next (z.next b))) (elements 32 z b.start 0 (z.next b)))
         go true e = has (lists x none_yet) (next_by_law (both_same T r (Symbol CloseList) refl e))
         go false e = elements_alike 32 x 0 none_yet (inl r)
 
@@ -445,14 +428,14 @@ module _ {s z : Scan} {R : Token → Token → Type 0} {Past : ℕ → Type 0} (
     operand_alike whole o {t} {u} (inl r) =
         rw (literal_still T r, same_still T r (Symbol OpenList) refl) (go (literal u) refl (same u (Symbol OpenList)) refl (whole && equality o))
       where
-        refer : (a b : ReferenceResult) → ReferenceOutcomes s z R Past a b → RightOutcomes s z R Past (operand_of a) (operand_of b)
-        refer (HasReference p i v) (HasReference q j w) (has x y k) = has (properties x y) k
+        refer : (a b : Result (Path × Option Token × Token) ℕ) → ReferenceOutcomes s z R Past a b → RightOutcomes s z R Past (operand_of a) (operand_of b)
+        refer (Ok (p, i, v)) (Ok (q, j, w)) (has x y k) = has (properties x y) k
         refer a b (no v w k) = no Grammar v w k
         refer a b (past f) = past (operand_of_on O a f)
 
         go : (c : Bool) → literal u ≡ c → (d : Bool) → same u (Symbol OpenList) ≡ d → (g : Bool)
-            → RightOutcomes s z R Past (pick c (HasRight (Literal t) (s.next t)) (pick (d && g) (array_literal s t) (operand_of (reference s (not whole) t))))
-            (pick c (HasRight (Literal u) (z.next u)) (pick (d && g) (array_literal z u) (operand_of (reference z (not whole) u))))
+            → RightOutcomes s z R Past (pick c (Ok (Literal t, s.next t)) (pick (d && g) (array_literal s t) (operand_of (reference s (not whole) t))))
+            (pick c (Ok (Literal u, z.next u)) (pick (d && g) (array_literal z u) (operand_of (reference z (not whole) u))))
         go true e d f g = let b = both_by T r literal_kind refl refl refl e in has (literals b) (next_by_law b)
         go false e true f true = let b = both_same T r (Symbol OpenList) refl f in list_alike b (next_by_law b)
         go false e true f false = refer _ _ (reference_alike (not whole) (inl r))
@@ -463,7 +446,7 @@ module _ {s z : Scan} {R : Token → Token → Type 0} {Past : ℕ → Type 0} (
     pattern_alike {t} {u} (inr f) = past (pattern_on O t f)
     pattern_alike {t} {u} (inl r) = rw (same_still T r Text refl) (go (same u Text) refl)
       where
-        go : (c : Bool) → same u Text ≡ c → RightOutcomes s z R Past (pick c (HasRight (Pattern t) (s.next t)) (NoRight (fault Grammar t.start))) (pick c (HasRight (Pattern u) (z.next u)) (NoRight (fault Grammar u.start)))
+        go : (c : Bool) → same u Text ≡ c → RightOutcomes s z R Past (pick c (Ok (Pattern t, s.next t)) (Err (fault Grammar t.start))) (pick c (Ok (Pattern u, z.next u)) (Err (fault Grammar u.start)))
         go true e = let b = both_same T r Text refl e in has (patterns b (T.kinds t u r b.within ∙ kind_is u Text e)) (next_by_law b)
         go false e = no Grammar t u r
 
@@ -474,7 +457,7 @@ module _ {s z : Scan} {R : Token → Token → Type 0} {Past : ℕ → Type 0} (
     right_alike NotLike whole m = pattern_alike m
 
     -- ---- a comparison
-    plain_alike : {i j : Index} (k : Quantifier) → Indices s z R i j → plain k i ≡ plain k j
+    plain_alike : {i j : Option Token} (k : Quantifier) → Indices s z R i j → plain k i ≡ plain k j
     plain_alike k no_index = refl
     plain_alike k (an_index b) = refl
 
@@ -482,8 +465,8 @@ module _ {s z : Scan} {R : Token → Token → Type 0} {Past : ℕ → Type 0} (
     unfolding property_comp comp_left comp_operation comp_of
     comparison_outcomes {t} {u} m = go (left_side s t) (left_side z u) (left_alike m)
       where
-        third : {a b : LeftSide} → Lefts s z R a b → (v : Operation) (x y : RightResult) → RightOutcomes s z R Past x y → ComparisonOutcomes s z R Past (comp_of a v x) (comp_of b v y)
-        third l v (HasRight x m) (HasRight y n) (has h k) = has (record { lefts = l; operations = refl; rights = h }) k
+        third : {a b : LeftSide} → Lefts s z R a b → (v : Operation) (x y : Result (RightSide × Token) Fault) → RightOutcomes s z R Past x y → ComparisonOutcomes s z R Past (comp_of a v x) (comp_of b v y)
+        third l v (Ok (x, m)) (Ok (y, n)) (has h k) = has (record { lefts = l; operations = refl; rights = h }) k
         third l v x y (no c m n r) = no c m n r
         third {a} l v x y (past f) = past (comp_of_on O a v x f)
 
@@ -491,8 +474,8 @@ module _ {s z : Scan} {R : Token → Token → Type 0} {Past : ℕ → Type 0} (
             → ComparisonOutcomes s z R Past (comp_of a v (right_side s v x m)) (comp_of b w (right_side z w y n))
         placed a b l v w e x y f k = rw (e, f) (third l w _ _ (right_alike w y k))
 
-        second : (a b : LeftSide) → Lefts s z R a b → (x y : OperationResult) → OperationOutcomes s z R Past x y → ComparisonOutcomes s z R Past (comp_operation s a x) (comp_operation z b y)
-        second a b l (HasOperation v m) (HasOperation w n) (has e k) =
+        second : (a b : LeftSide) → Lefts s z R a b → (x y : Result (Operation × Token) ℕ) → OperationOutcomes s z R Past x y → ComparisonOutcomes s z R Past (comp_operation s a x) (comp_operation z b y)
+        second a b l (Ok (v, m)) (Ok (w, n)) (has e k) =
             placed a b l v w e (plain a.quantifier a.index) (plain b.quantifier b.index)
             (ap (λ (x : Quantifier). plain x a.index) l.quantifiers ∙ plain_alike b.quantifier l.indices) k
         second a b l x y (no m n r) = no Grammar m n r
@@ -501,8 +484,8 @@ module _ {s z : Scan} {R : Token → Token → Type 0} {Past : ℕ → Type 0} (
         first : (a b : LeftSide) → Lefts s z R a b → (x y : Bool) → x ≡ y → {m n : Token} → Meets s z R Past m n → ComparisonOutcomes s z R Past (comp_operation s a (operation s x m)) (comp_operation z b (operation z y n))
         first a b l x y f k = rw f (second a b l _ _ (operation_alike y k))
 
-        go : (a b : LeftResult) → LeftOutcomes s z R Past a b → ComparisonOutcomes s z R Past (comp_left s a) (comp_left z b)
-        go (HasLeft a m) (HasLeft b n) (has l k) = first a b l (single a.quantifier) (single b.quantifier) (ap single l.quantifiers) k
+        go : (a b : Result (LeftSide × Token) ℕ) → LeftOutcomes s z R Past a b → ComparisonOutcomes s z R Past (comp_left s a) (comp_left z b)
+        go (Ok (a, m)) (Ok (b, n)) (has l k) = first a b l (single a.quantifier) (single b.quantifier) (ap single l.quantifiers) k
         go a b (no m n r) = no Grammar m n r
         go a b (past f) = past (comp_left_on O a f)
 
@@ -517,7 +500,7 @@ module _ {s z : Scan} {R : Token → Token → Type 0} (S : Simulates s z R) (en
   pub comparison_alike : {t u : Token} → R t u → ComparisonResults s z R (property_comp s t) (property_comp z u)
   comparison_alike {t} {u} r = go (comparison_outcomes throughout enough other-enough (inl r))
     where
-      go : {x y : ComparisonResult} → ComparisonOutcomes s z R Never x y → ComparisonResults s z R x y
+      go : {x y : Result (Comparison × Token) Fault} → ComparisonOutcomes s z R Never x y → ComparisonResults s z R x y
       go (has h (inl k)) = has h k
       go (has h (inr f)) = absurd f
       go (no c v w k) = no c v w k

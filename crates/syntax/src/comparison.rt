@@ -3,10 +3,10 @@ ghost use Rattle.std.specs.Prelude.{◌≡◌};
 ghost use Rattle.syntax.specs.Scan.{scan};
 ghost use Rattle.syntax.specs.Comparison.{property_comp};
 
-use crate::fault::{Cause, Fault};
-use crate::left_side::{LeftResult, LeftSide, is_plain, is_single, read_left};
-use crate::operation::{Operation, OperationResult, read_operation};
-use crate::right_side::{RightResult, RightSide, read_right};
+use crate::fault::{Fault, grammar_at};
+use crate::left_side::{LeftSide, is_plain, is_single, read_left};
+use crate::operation::{Operation, read_operation};
+use crate::right_side::{RightSide, read_right};
 use token::Token;
 
 #[derive(Drop)]
@@ -16,45 +16,19 @@ pub struct Comparison {
     pub right: RightSide,
 }
 
-#[derive(Drop)]
-pub enum ComparisonResult {
-    HasComparison(Comparison, Token),
-    NoComparison(Fault),
-}
-
-pub fn read_comparison(q: &[u8], t: Token) -> ComparisonResult
+#[tactic(auto, unfolding(crate::specs::Comparison::property_comp, crate::specs::Comparison::comp_left, crate::specs::Comparison::comp_operation, crate::specs::Comparison::comp_of))]
+pub fn read_comparison(q: &[u8], t: Token) -> Result<(Comparison, Token), Fault>
     ensures { result ≡ property_comp (scan q.now) t }
 {
-    match read_left(q, t) {
-        LeftResult::NoLeft(place) => ComparisonResult::NoComparison(Fault {
-            cause: Cause::Grammar,
-            place,
-        }),
-        LeftResult::HasLeft(left, u) => {
-            let k = left.quantifier;
-            let i = left.index;
-            match read_operation(q, is_single(k), u) {
-                OperationResult::NoOperation(place) => ComparisonResult::NoComparison(Fault {
-                    cause: Cause::Grammar,
-                    place,
-                }),
-                OperationResult::HasOperation(operation, v) => match read_right(
-                    q,
-                    operation,
-                    is_plain(k, i),
-                    v,
-                ) {
-                    RightResult::NoRight(f) => ComparisonResult::NoComparison(f),
-                    RightResult::HasRight(right, w) => ComparisonResult::HasComparison(
-                        Comparison {
-                            left,
-                            operation,
-                            right,
-                        },
-                        w,
-                    ),
-                },
-            }
-        }
-    }
+    let (left, u) = read_left(q, t).map_err(grammar_at)?;
+    let (operation, v) = read_operation(q, is_single(left.quantifier), u).map_err(grammar_at)?;
+    let (right, w) = read_right(q, operation, is_plain(left.quantifier, left.index), v)?;
+    Ok((
+        Comparison {
+            left,
+            operation,
+            right,
+        },
+        w,
+    ))
 }

@@ -1,6 +1,7 @@
 // Why a query's text is refused, and where.
 ghost use Rattle.std.specs.Prelude.{◌≡◌};
-ghost use Rattle.syntax.specs.Scan.{limited};
+ghost use Rattle.syntax.specs.declared.fault.Cause.TheVariants.{Grammar};
+ghost use Rattle.syntax.specs.Scan.{fault, limited};
 
 // 01's numbers 1, 10, 11 and 12.
 #[derive(Clone, Copy)]
@@ -18,18 +19,24 @@ pub struct Fault {
     pub place: usize,
 }
 
+pub fn grammar_at(place: usize) -> Fault
+    ensures { result ≡ fault Grammar place }
+{
+    Fault {
+        cause: Cause::Grammar,
+        place,
+    }
+}
+
 // The fault where a limit is used up: one more stands there, or the grammar breaks.
 pub fn limit_at(over: bool, place: usize) -> Fault
     ensures { result ≡ limited over place }
 {
-    if over {
-        return Fault {
-            cause: Cause::Limit,
-            place,
-        };
+    if !over {
+        return grammar_at(place);
     }
     Fault {
-        cause: Cause::Grammar,
+        cause: Cause::Limit,
         place,
     }
 }

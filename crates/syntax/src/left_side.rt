@@ -3,9 +3,10 @@ ghost use Rattle.std.specs.Prelude.{◌≡◌};
 ghost use Rattle.syntax.specs.Scan.{scan, skip};
 ghost use Rattle.syntax.specs.Comparison.{single, plain, left_side};
 
-use crate::path::{Index, Path, ReferenceResult, read_reference};
-use terminal::quantifier::Quantifier;
-use token::{Reserved, Token, TokenKind};
+use crate::path::{Path, read_reference};
+use terminal::kind::is_kind;
+use terminal::quantifier::{Quantifier, quantifier_of};
+use token::{Reserved, Token, TokenKind, token_after};
 
 // It starts where the comparison does, NOT, ANY and EVERY included.
 #[derive(Clone, Copy)]
@@ -14,68 +15,47 @@ pub struct LeftSide {
     pub negated: bool,
     pub quantifier: Quantifier,
     pub path: Path,
-    pub index: Index,
-}
-
-#[derive(Drop)]
-pub enum LeftResult {
-    HasLeft(LeftSide, Token),
-    NoLeft(usize),
+    pub index: Option<Token>,
 }
 
 pub fn skip_if(q: &[u8], yes: bool, t: Token) -> Token
     ensures { result ≡ skip (scan q.now) yes t }
 {
-    if yes {
-        return token::token_after(q, t);
-    }
-    t
+    if yes { token_after(q, t) } else { t }
 }
 
 pub fn is_single(k: Quantifier) -> bool
     ensures { result ≡ single k }
 {
-    match k {
-        Quantifier::Single => true,
-        Quantifier::Any => false,
-        Quantifier::Every => false,
-    }
+    matches!(k, Quantifier::Single)
 }
 
-pub fn is_plain(k: Quantifier, i: Index) -> bool
+pub fn is_plain(k: Quantifier, i: Option<Token>) -> bool
     ensures { result ≡ plain k i }
 {
-    match i {
-        Index::Whole => is_single(k),
-        Index::At(_) => false,
-    }
+    i.is_none() && is_single(k)
 }
 
-pub(crate) fn read_left(q: &[u8], t: Token) -> LeftResult
+#[tactic(auto, unfolding(crate::specs::Comparison::left_side, crate::specs::Comparison::left_at, crate::specs::Comparison::left_by, crate::specs::Comparison::left_of))]
+pub(crate) fn read_left(q: &[u8], t: Token) -> Result<(LeftSide, Token), usize>
     ensures { result ≡ left_side (scan q.now) t }
 {
-    let negated = terminal::kind::is_kind(t, TokenKind::Word(Reserved::Not));
+    let negated = is_kind(t, TokenKind::Word(Reserved::Not));
     let u = skip_if(q, negated, t);
-    let quantifier = terminal::quantifier::quantifier_of(u);
+    let quantifier = quantifier_of(u);
     let alone = is_single(quantifier);
     if negated & alone {
-        return LeftResult::NoLeft(u.start);
+        return Err(u.start);
     }
-    let v = skip_if(q, !alone, u);
-    match read_reference(q, alone, v) {
-        ReferenceResult::NoReference(p) => LeftResult::NoLeft(p),
-        ReferenceResult::HasReference(path, index, w) => {
-            let start = t.start;
-            LeftResult::HasLeft(
-                LeftSide {
-                    start,
-                    negated,
-                    quantifier,
-                    path,
-                    index,
-                },
-                w,
-            )
-        }
-    }
+    let (path, index, v) = read_reference(q, alone, skip_if(q, !alone, u))?;
+    Ok((
+        LeftSide {
+            start: t.start,
+            negated,
+            quantifier,
+            path,
+            index,
+        },
+        v,
+    ))
 }

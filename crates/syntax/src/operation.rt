@@ -4,8 +4,9 @@ ghost use Rattle.syntax.specs.Scan.{scan};
 ghost use Rattle.syntax.specs.Comparison.{like, operation};
 
 use base::order::Operator;
-use terminal::operator::Comparing;
-use token::{Reserved, Token, TokenKind};
+use terminal::kind::is_kind;
+use terminal::operator::comparing_of;
+use token::{Reserved, Token, TokenKind, token_after};
 
 #[derive(Clone, Copy)]
 pub enum Operation {
@@ -14,38 +15,29 @@ pub enum Operation {
     NotLike,
 }
 
-#[derive(Drop)]
-pub enum OperationResult {
-    HasOperation(Operation, Token),
-    NoOperation(usize),
-}
-
-fn read_like(q: &[u8], allowed: bool, t: Token) -> OperationResult
+#[tactic(auto, unfolding(crate::specs::Comparison::like, crate::specs::Comparison::not_like))]
+fn read_like(q: &[u8], allowed: bool, t: Token) -> Result<(Operation, Token), usize>
     ensures { result ≡ like (scan q.now) allowed t }
 {
-    if allowed & terminal::kind::is_kind(t, TokenKind::Word(Reserved::Like)) {
-        let u = token::token_after(q, t);
-        return OperationResult::HasOperation(Operation::Like, u);
+    if allowed & is_kind(t, TokenKind::Word(Reserved::Like)) {
+        return Ok((Operation::Like, token_after(q, t)));
     }
-    if allowed & terminal::kind::is_kind(t, TokenKind::Word(Reserved::Not)) {
-        let u = token::token_after(q, t);
-        if terminal::kind::is_kind(u, TokenKind::Word(Reserved::Like)) {
-            let v = token::token_after(q, u);
-            return OperationResult::HasOperation(Operation::NotLike, v);
-        }
-        return OperationResult::NoOperation(u.start);
+    if !(allowed & is_kind(t, TokenKind::Word(Reserved::Not))) {
+        return Err(t.start);
     }
-    OperationResult::NoOperation(t.start)
+    let u = token_after(q, t);
+    if !is_kind(u, TokenKind::Word(Reserved::Like)) {
+        return Err(u.start);
+    }
+    Ok((Operation::NotLike, token_after(q, u)))
 }
 
-pub(crate) fn read_operation(q: &[u8], alone: bool, t: Token) -> OperationResult
+#[tactic(auto, unfolding(crate::specs::Comparison::operation, crate::specs::Comparison::operation_by))]
+pub(crate) fn read_operation(q: &[u8], alone: bool, t: Token) -> Result<(Operation, Token), usize>
     ensures { result ≡ operation (scan q.now) alone t }
 {
-    match terminal::operator::comparing_of(t) {
-        Comparing::By(o) => {
-            let u = token::token_after(q, t);
-            OperationResult::HasOperation(Operation::Compare(o), u)
-        }
-        Comparing::NoOperator => read_like(q, alone, t),
+    match comparing_of(t) {
+        Some(o) => Ok((Operation::Compare(o), token_after(q, t))),
+        None => read_like(q, alone, t),
     }
 }

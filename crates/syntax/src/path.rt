@@ -3,7 +3,9 @@ ghost use Rattle.std.specs.Prelude.{◌≡◌, ◌+◌, ◌<◌, length};
 ghost use Rattle.syntax.specs.Scan.{scan};
 ghost use Rattle.syntax.specs.Property.{span_of, first_name, one_more, dotted, property, indexed, reference};
 
-use token::{Punctuation, Token, TokenKind};
+use terminal::kind::{is_kind, is_word};
+use terminal::literal::is_unsigned;
+use token::{Punctuation, Token, TokenKind, token_after};
 
 // A name's place in the text.
 #[derive(Clone, Copy)]
@@ -21,31 +23,6 @@ pub struct Path {
     pub names: usize,
 }
 
-// "[" index "]", with the index's token.
-#[derive(Clone, Copy)]
-pub enum Index {
-    Whole,
-    At(Token),
-}
-
-#[derive(Drop)]
-pub enum PathResult {
-    HasPath(Path, Token),
-    NoPath(usize),
-}
-
-#[derive(Drop)]
-pub enum IndexResult {
-    HasIndex(Index, Token),
-    NoIndex(usize),
-}
-
-#[derive(Drop)]
-pub enum ReferenceResult {
-    HasReference(Path, Index, Token),
-    NoReference(usize),
-}
-
 fn span_of(t: Token) -> Span
     ensures { result ≡ span_of t }
 {
@@ -55,93 +32,81 @@ fn span_of(t: Token) -> Span
     }
 }
 
+#[tactic(auto, unfolding(crate::specs::Property::one_more))]
 fn add_name(p: Path, t: Token) -> Path
     requires { p.names < 0xffffffffffffffff }
     ensures { result ≡ one_more p t }
 {
-    let first = p.first;
-    let second = p.second;
-    let names = p.names;
-    if names == 1 {
-        return Path {
-            first,
-            second: span_of(t),
-            names: names + 1,
-        };
-    }
     Path {
-        first,
-        second,
-        names: names + 1,
+        first: p.first,
+        second: if p.names == 1 { span_of(t) } else { p.second },
+        names: p.names + 1,
     }
 }
 
 // *( "." property-name )
-fn read_names(q: &[u8], first: Token, second: Token) -> PathResult
+fn read_names(q: &[u8], first: Token, second: Token) -> Result<(Path, Token), usize>
     ensures { result ≡ dotted (length q.now + 1) (scan q.now) (first_name first) second }
 {
     let end = first.end;
     let mut path = Path {
-        first: Span {
-            start: first.start,
-            end,
-        },
+        first: span_of(first),
         second: Span { start: end, end },
         names: 1,
     };
     let mut t = second;
-    let mut left = q.len() + 1;
-    while 0 < left {
-        if !terminal::kind::is_kind(t, TokenKind::Symbol(Punctuation::Dot)) {
-            return PathResult::HasPath(path, t);
+    // Each name is a byte or more, so a text ends before its names come to as many as this.
+    for _step in 0..q.len() + 1 {
+        if !is_kind(t, TokenKind::Symbol(Punctuation::Dot)) {
+            return Ok((path, t));
         }
-        let w = token::token_after(q, t);
-        if !terminal::kind::is_word(w) {
-            return PathResult::NoPath(w.start);
+        let name = token_after(q, t);
+        if !is_word(name) {
+            return Err(name.start);
         }
-        path = add_name(path, w);
-        t = token::token_after(q, w);
-        left -= 1;
+        path = add_name(path, name);
+        t = token_after(q, name);
     }
-    PathResult::HasPath(path, t)
+    Ok((path, t))
 }
 
-pub fn read_path(q: &[u8], t: Token) -> PathResult
+#[tactic(auto, unfolding(crate::specs::Property::property))]
+pub fn read_path(q: &[u8], t: Token) -> Result<(Path, Token), usize>
     ensures { result ≡ property (scan q.now) t }
 {
-    if terminal::kind::is_kind(t, TokenKind::Name) {
-        let u = token::token_after(q, t);
-        return read_names(q, t, u);
+    if !is_kind(t, TokenKind::Name) {
+        return Err(t.start);
     }
-    PathResult::NoPath(t.start)
+    read_names(q, t, token_after(q, t))
 }
 
-fn read_index(q: &[u8], allowed: bool, t: Token) -> IndexResult
+#[tactic(auto, unfolding(crate::specs::Property::indexed, crate::specs::Property::index_number, crate::specs::Property::close_index))]
+fn read_index(q: &[u8], allowed: bool, t: Token) -> Result<(Option<Token>, Token), usize>
     ensures { result ≡ indexed (scan q.now) allowed t }
 {
-    if allowed & terminal::kind::is_kind(t, TokenKind::Symbol(Punctuation::OpenIndex)) {
-        let u = token::token_after(q, t);
-        if terminal::literal::is_unsigned(q, u) {
-            let v = token::token_after(q, u);
-            if terminal::kind::is_kind(v, TokenKind::Symbol(Punctuation::CloseIndex)) {
-                let w = token::token_after(q, v);
-                return IndexResult::HasIndex(Index::At(u), w);
-            }
-            return IndexResult::NoIndex(v.start);
-        }
-        return IndexResult::NoIndex(u.start);
+    if !(allowed & is_kind(t, TokenKind::Symbol(Punctuation::OpenIndex))) {
+        return Ok((None, t));
     }
-    IndexResult::HasIndex(Index::Whole, t)
+    let number = token_after(q, t);
+    if !is_unsigned(q, number) {
+        return Err(number.start);
+    }
+    let close = token_after(q, number);
+    if !is_kind(close, TokenKind::Symbol(Punctuation::CloseIndex)) {
+        return Err(close.start);
+    }
+    Ok((Some(number), token_after(q, close)))
 }
 
-pub fn read_reference(q: &[u8], allowed: bool, t: Token) -> ReferenceResult
+#[tactic(auto, unfolding(crate::specs::Property::reference, crate::specs::Property::with_path, crate::specs::Property::with_index))]
+pub fn read_reference(
+    q: &[u8],
+    allowed: bool,
+    t: Token,
+) -> Result<(Path, Option<Token>, Token), usize>
     ensures { result ≡ reference (scan q.now) allowed t }
 {
-    match read_path(q, t) {
-        PathResult::NoPath(p) => ReferenceResult::NoReference(p),
-        PathResult::HasPath(p, u) => match read_index(q, allowed, u) {
-            IndexResult::NoIndex(x) => ReferenceResult::NoReference(x),
-            IndexResult::HasIndex(i, v) => ReferenceResult::HasReference(p, i, v),
-        },
-    }
+    let (path, u) = read_path(q, t)?;
+    let (index, v) = read_index(q, allowed, u)?;
+    Ok((path, index, v))
 }

@@ -3,112 +3,109 @@ ghost use Rattle.std.specs.Prelude.{◌≡◌};
 ghost use Rattle.syntax.specs.Scan.{scan};
 ghost use Rattle.syntax.specs.Comparison.{elements, array_literal, operand, pattern, right_side};
 
-use crate::fault::{Cause, Fault, limit_at};
+use crate::fault::{Fault, grammar_at, limit_at};
 use crate::operation::Operation;
-use crate::path::{Index, Path, ReferenceResult, read_reference};
+use crate::path::{Path, read_reference};
 use base::order::Operator;
-use token::{Punctuation, Token, TokenKind};
+use terminal::kind::is_kind;
+use terminal::literal::is_literal;
+use terminal::operator::is_equality;
+use token::{Punctuation, Token, TokenKind, token_after};
 
-// Elements: the start of the array literal, how many there are, and its end.
+// Elements: where the array literal starts, how many there are, and where it ends.
 #[derive(Clone, Copy)]
 pub enum RightSide {
     Literal(Token),
-    Elements(usize, usize, usize),
-    Property(Path, Index),
+    Elements {
+        start: usize,
+        count: usize,
+        end: usize,
+    },
+    Property(Path, Option<Token>),
     Pattern(Token),
 }
 
-#[derive(Drop)]
-pub enum RightResult {
-    HasRight(RightSide, Token),
-    NoRight(Fault),
-}
+// 01: an array literal has at most 32 elements.
+const MOST_ELEMENTS: usize = 32;
 
 // scalar-literal *( "," scalar-literal ) "}"
-fn read_elements(q: &[u8], start: usize, first: Token) -> RightResult
+fn read_elements(q: &[u8], start: usize, first: Token) -> Result<(RightSide, Token), Fault>
     ensures { result ≡ elements 32 (scan q.now) start 0 first }
 {
     let mut t = first;
-    let mut count: usize = 0;
-    let mut left: usize = 32;
-    while 0 < left {
-        if !terminal::literal::is_literal(t) {
-            return RightResult::NoRight(Fault {
-                cause: Cause::Grammar,
-                place: t.start,
-            });
+    for before in 0..MOST_ELEMENTS {
+        if !is_literal(t) {
+            return Err(grammar_at(t.start));
         }
-        let u = token::token_after(q, t);
-        if terminal::kind::is_kind(u, TokenKind::Symbol(Punctuation::CloseList)) {
-            let v = token::token_after(q, u);
-            return RightResult::HasRight(RightSide::Elements(start, count + 1, u.end), v);
+        let u = token_after(q, t);
+        if is_kind(u, TokenKind::Symbol(Punctuation::CloseList)) {
+            let list = RightSide::Elements {
+                start,
+                count: before + 1,
+                end: u.end,
+            };
+            return Ok((list, token_after(q, u)));
         }
-        if !terminal::kind::is_kind(u, TokenKind::Symbol(Punctuation::Comma)) {
-            return RightResult::NoRight(Fault {
-                cause: Cause::Grammar,
-                place: u.start,
-            });
+        if !is_kind(u, TokenKind::Symbol(Punctuation::Comma)) {
+            return Err(grammar_at(u.start));
         }
-        t = token::token_after(q, u);
-        count += 1;
-        left -= 1;
+        t = token_after(q, u);
     }
-    RightResult::NoRight(limit_at(terminal::literal::is_literal(t), t.start))
+    Err(limit_at(is_literal(t), t.start))
 }
 
-fn read_array(q: &[u8], t: Token) -> RightResult
+#[tactic(auto, unfolding(crate::specs::Comparison::array_literal, crate::specs::Comparison::list_from))]
+fn read_array(q: &[u8], t: Token) -> Result<(RightSide, Token), Fault>
     ensures { result ≡ array_literal (scan q.now) t }
 {
-    let u = token::token_after(q, t);
-    if terminal::kind::is_kind(u, TokenKind::Symbol(Punctuation::CloseList)) {
-        let v = token::token_after(q, u);
-        return RightResult::HasRight(RightSide::Elements(t.start, 0, u.end), v);
+    let u = token_after(q, t);
+    if !is_kind(u, TokenKind::Symbol(Punctuation::CloseList)) {
+        return read_elements(q, t.start, u);
     }
-    read_elements(q, t.start, u)
+    let empty = RightSide::Elements {
+        start: t.start,
+        count: 0,
+        end: u.end,
+    };
+    Ok((empty, token_after(q, u)))
 }
 
-fn read_operand(q: &[u8], whole: bool, o: Operator, t: Token) -> RightResult
+#[tactic(auto, unfolding(crate::specs::Comparison::operand, crate::specs::Comparison::operand_of))]
+fn read_operand(q: &[u8], whole: bool, o: Operator, t: Token) -> Result<(RightSide, Token), Fault>
     ensures { result ≡ operand (scan q.now) whole o t }
 {
-    if terminal::literal::is_literal(t) {
-        let u = token::token_after(q, t);
-        return RightResult::HasRight(RightSide::Literal(t), u);
+    if is_literal(t) {
+        return Ok((RightSide::Literal(t), token_after(q, t)));
     }
-    let list = terminal::kind::is_kind(t, TokenKind::Symbol(Punctuation::OpenList));
-    if list & (whole & terminal::operator::is_equality(o)) {
+    let list = is_kind(t, TokenKind::Symbol(Punctuation::OpenList));
+    if list & (whole & is_equality(o)) {
         return read_array(q, t);
     }
-    match read_reference(q, !whole, t) {
-        ReferenceResult::NoReference(place) => RightResult::NoRight(Fault {
-            cause: Cause::Grammar,
-            place,
-        }),
-        ReferenceResult::HasReference(p, i, u) => RightResult::HasRight(
-            RightSide::Property(p, i),
-            u,
-        ),
-    }
+    let (path, index, u) = read_reference(q, !whole, t).map_err(grammar_at)?;
+    Ok((RightSide::Property(path, index), u))
 }
 
-fn read_pattern(q: &[u8], t: Token) -> RightResult
+#[tactic(auto, unfolding(crate::specs::Comparison::pattern))]
+fn read_pattern(q: &[u8], t: Token) -> Result<(RightSide, Token), Fault>
     ensures { result ≡ pattern (scan q.now) t }
 {
-    if terminal::kind::is_kind(t, TokenKind::Text) {
-        let u = token::token_after(q, t);
-        return RightResult::HasRight(RightSide::Pattern(t), u);
+    if !is_kind(t, TokenKind::Text) {
+        return Err(grammar_at(t.start));
     }
-    RightResult::NoRight(Fault {
-        cause: Cause::Grammar,
-        place: t.start,
-    })
+    Ok((RightSide::Pattern(t), token_after(q, t)))
 }
 
-pub(crate) fn read_right(q: &[u8], v: Operation, whole: bool, t: Token) -> RightResult
+#[tactic(auto, unfolding(crate::specs::Comparison::right_side))]
+pub(crate) fn read_right(
+    q: &[u8],
+    v: Operation,
+    whole: bool,
+    t: Token,
+) -> Result<(RightSide, Token), Fault>
     ensures { result ≡ right_side (scan q.now) v whole t }
 {
     match v {
         Operation::Compare(o) => read_operand(q, whole, o, t),
-        Operation::Like => read_pattern(q, t),
-        Operation::NotLike => read_pattern(q, t),
+        Operation::Like | Operation::NotLike => read_pattern(q, t),
     }
 }

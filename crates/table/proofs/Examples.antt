@@ -26,7 +26,7 @@ use Rattle.table.specs.Examples.{tables, lookups, sample_starts}
 tables_read : results table_reading tables ≡ expected tables
 unfolding
     LittleEndian.unsigned Walk.walk Walk.from Record.record_at Record.records Write.little_endian Write.write
-    Range.within Name.letter Name.name_byte Name.all Name.valid_name Name.lower Name.same_name
+    Range.within Name.letter Name.name_byte Name.valid_name Name.lower Name.same_name
     Reserved.reserved_words Reserved.among Reserved.is_reserved Kind.integer_kind Kind.scalar_kind Kind.kind_of Table.properties Table.table_reading
 tables_read = refl
 

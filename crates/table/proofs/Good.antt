@@ -1,4 +1,5 @@
 -- A table free of 2 and 3: at most 8,192 bytes and 128 properties, each of a known kind and a name of its own.
+use Rattle.std.specs.Prelude.{Ok, Err}
 use Prim.Native.Nat.{ℕ, zero, suc, ◌+◌, ◌≤◌, ◌<◌}
 use mathlib.Core.List.{List, [], ◌∷◌, ◌++◌}
 use mathlib.Core.Bool.{Bool, true, false, ◌&&◌, ◌||◌}
@@ -18,10 +19,8 @@ use Rattle.record.specs.declared.read.RecordAt.{RecordAt}
 use Rattle.record.specs.declared.read.RecordAt.TheVariants.{Whole, Broken, End}
 use Rattle.record.proofs.Records.{records_whole, records_broken, records_end}
 use Rattle.record.proofs.Names.{same_self, same_turned, same_through}
-use Rattle.table.specs.declared.validate.TableFault.{TableFault}
-use Rattle.table.specs.declared.validate.TableReading.{TableReading}
-use Rattle.table.specs.declared.validate.TableReading.TheVariants.{Good, Fault}
-use Rattle.table.specs.Table.{is_known, is_class, is_property, properties, class, table_reading, IsGood, FreeOfFaults}
+use Rattle.table.specs.declared.validate.TableRefusal.{TableRefusal}
+use Rattle.table.specs.Table.{Reading, is_known, is_class, is_property, properties, class, table_reading, IsGood, FreeOfFaults}
 use Rattle.table.specs.Properties.{after_first, property_records, kinds_in, kinds_of, names_in, names_of}
 
 -- every kind says something
@@ -43,16 +42,16 @@ pub record GoodTable (t : List ℕ) (m : ℕ) : Type 0 where
   pub distinct : Distinct (names_of t)
   pub fit : Fit (property_records t)
 
-no_good : {c : TableFault} {p m : ℕ} → Fault c p ≡ Good m → ⊥
+no_good : {x : TableRefusal} {m : ℕ} → ◌≡◌ {A = Reading} (Err x) (Ok m) → ⊥
 no_good e = let z : ◌≡◌ {A = ℕ} 0 1 = cc in omega arith
 
-kept : {m : ℕ} (b : Bool) (x : TableReading) (c : TableFault) (p : ℕ) → pick b x (Fault c p) ≡ Good m → (b ≡ true) × (x ≡ Good m)
-kept true x c p e = (refl, e)
-kept false x c p e = absurd (no_good e)
+kept : {m : ℕ} (b : Bool) (x : Reading) (y : TableRefusal) → pick b x (Err y) ≡ Ok m → (b ≡ true) × (x ≡ Ok m)
+kept true x y e = (refl, e)
+kept false x y e = absurd (no_good e)
 
-passed : {m : ℕ} (b : Bool) (x : TableReading) (c : TableFault) (p : ℕ) → pick b (Fault c p) x ≡ Good m → (b ≡ false) × (x ≡ Good m)
-passed true x c p e = absurd (no_good e)
-passed false x c p e = (refl, e)
+passed : {m : ℕ} (b : Bool) (x : Reading) (y : TableRefusal) → pick b (Err y) x ≡ Ok m → (b ≡ false) × (x ≡ Ok m)
+passed true x y e = absurd (no_good e)
+passed false x y e = (refl, e)
 
 -- a name among others
 or_left : (a b : Bool) → a ≡ true → (a || b) ≡ true
@@ -94,12 +93,12 @@ fresh_one : (x y : List ℕ) (names : List (List ℕ)) (rest : Bool) → among x
 fresh_one x y names rest h g r true e = absurd (apart (sym g ∙ among_same x y names e h))
 fresh_one x y names rest h g r false e = r
 
-fresh : (t : List ℕ) (names : List (List ℕ)) (rs : Records) (m : ℕ) → properties t names rs ≡ Good m
+fresh : (t : List ℕ) (names : List (List ℕ)) (rs : Records) (m : ℕ) → properties t names rs ≡ Ok m
     → (x : List ℕ) → among x names ≡ true → among x (names_in t rs) ≡ false
 unfolding properties among names_in
 fresh t names (item place kind start len rest) m e x h =
-    let a = kept (ltb (length names) 128 && is_property kind (part t start len)) _ _ _ e in
-    let d = passed (among (part t start len) names) _ _ _ a.1 in
+    let a = kept (ltb (length names) 128 && is_property kind (part t start len)) _ _ e in
+    let d = passed (among (part t start len) names) _ _ a.1 in
     fresh_one x (part t start len) names (among x (names_in t rest)) h d.0
     (fresh t (names ++ (part t start len ∷ [])) rest m d.1 x (among_more x names _ h)) (same_name x (part t start len)) refl
 fresh t names (broken place) m e x h = refl
@@ -113,15 +112,15 @@ record GoodFrom (t : List ℕ) (rs : Records) (n m : ℕ) : Type 0 where
   distinct : Distinct (names_in t rs)
   fit : Fit rs
 
-good_from : (t : List ℕ) (names : List (List ℕ)) (rs : Records) (m : ℕ) → length names ≤ 128 → properties t names rs ≡ Good m → GoodFrom t rs (length names) m
+good_from : (t : List ℕ) (names : List (List ℕ)) (rs : Records) (m : ℕ) → length names ≤ 128 → properties t names rs ≡ Ok m → GoodFrom t rs (length names) m
 unfolding properties kinds_in names_in Known Distinct Fit
 good_from t names (item place kind start len rest) m h e =
     let name = part t start len in
-    let a = kept (ltb (length names) 128 && is_property kind name) _ _ _ e in
+    let a = kept (ltb (length names) 128 && is_property kind name) _ _ e in
     let b = and_both (ltb (length names) 128) (is_property kind name) a.0 in
     let c = and_both (is_known (kind_of kind)) (valid_name name) b.1 in
     let l = ltb-true (length names) 128 b.0 in
-    let d = passed (among name names) _ _ _ a.1 in
+    let d = passed (among name names) _ _ a.1 in
     let s = length-append names (name ∷ []) in
     let r = good_from t (names ++ (name ∷ [])) rest m (omega arith) d.1 in
     record {
@@ -137,17 +136,17 @@ good_from t names ended m h e =
     let q : length names ≡ m = cc in
     record { few = omega arith; kinds = omega arith; known = tt; names = omega arith; distinct = tt; fit = tt }
 
-good_class : (t : List ℕ) (m : ℕ) (r : RecordAt) → record_at t 0 ≡ r → class t (records t 0) ≡ Good m → GoodFrom t (records t (after_first t r)) 0 m
+good_class : (t : List ℕ) (m : ℕ) (r : RecordAt) → record_at t 0 ≡ r → class t (records t 0) ≡ Ok m → GoodFrom t (records t (after_first t r)) 0 m
 good_class t m (Whole kind start len next) f e =
-    let a = kept (is_class kind (part t start len)) (properties t [] (records t next)) _ _ (rw (records_whole t 0 kind start len next f) at e) in
+    let a = kept (is_class kind (part t start len)) (properties t [] (records t next)) _ (rw (records_whole t 0 kind start len next f) at e) in
     good_from t [] (records t next) m (omega arith) a.1
 good_class t m Broken f e = absurd (no_good (rw (records_broken t 0 f) at e))
 good_class t m End f e = absurd (no_good (rw (records_end t 0 f) at e))
 
-pub good_table : (t : List ℕ) (m : ℕ) → table_reading t ≡ Good m → GoodTable t m
+pub good_table : (t : List ℕ) (m : ℕ) → table_reading t ≡ Ok m → GoodTable t m
 unfolding table_reading
 good_table t m e =
-    let a = passed (ltb 8192 (length t)) (class t (records t 0)) _ _ e in
+    let a = passed (ltb 8192 (length t)) (class t (records t 0)) _ e in
     let l = ltb-false 8192 (length t) a.0 in
     let g = good_class t m (record_at t 0) refl a.1 in
     record {
@@ -182,11 +181,11 @@ only_one (x ∷ xs) d (suc i) (suc j) h g e = ap suc (only_one xs d.1.1 i j (ome
 -- a table free of 2 and 3 has a count
 pub record Counted (t : List ℕ) : Type 0 where
   pub count : ℕ
-  pub is : table_reading t ≡ Good count
+  pub is : table_reading t ≡ Ok count
 
 pub counted : (t : List ℕ) → FreeOfFaults t → Counted t
 counted t = go (table_reading t) refl
   where
-    go : (r : TableReading) → table_reading t ≡ r → IsGood r → Counted t
-    go (Good n) e h = record { count = n; is = e }
-    go (Fault c p) e h = absurd h
+    go : (r : Reading) → table_reading t ≡ r → IsGood r → Counted t
+    go (Ok n) e h = record { count = n; is = e }
+    go (Err x) e h = absurd h

@@ -1,13 +1,12 @@
 -- 01 "Table": the class and the properties of a table, with their names and kinds, and a property by its name. Of any bytes: what a malformed table lacks is absent.
-use Rattle.std.specs.Prelude.{ℕ, ◌+◌, List, [], ◌∷◌, length, ltb}
+use Rattle.std.specs.Prelude.{ℕ, ◌+◌, List, [], ◌∷◌, Option, Some, None, length, ltb}
 use Rattle.base.specs.Pick.{pick}
 use Rattle.base.specs.Part.{part}
 use Rattle.record.specs.Record.{record_at, Records, item, broken, ended, records}
 use Rattle.record.specs.Name.{same_name}
 use Rattle.record.specs.declared.read.RecordAt.{RecordAt}
 use Rattle.record.specs.declared.read.RecordAt.TheVariants.{Whole, Broken, End}
-use Rattle.table.specs.declared.lookup.Found.{Found}
-use Rattle.table.specs.declared.lookup.Found.TheVariants.{Property, Absent}
+use Rattle.table.specs.declared.lookup.Property.{Property}
 
 abbrev pub class_in : List ℕ → RecordAt → List ℕ
 class_in t (Whole kind start len next) = part t start len
@@ -55,13 +54,17 @@ names_before t stop (item place kind start len rest) = pick (ltb place stop) (pa
 names_before t stop (broken place) = []
 names_before t stop ended = []
 
+-- a property that is found
+abbrev pub found : (number kind : ℕ) → Option Property
+found n k = Some (record { number = n; kind = k })
+
 -- the first record with a name, where the records' numbers start with the one given
-unfoldable pub find_in : List ℕ → (name : List ℕ) (number : ℕ) → Records → Found
+unfoldable pub find_in : List ℕ → (name : List ℕ) (number : ℕ) → Records → Option Property
 find_in t name number (item place kind start len rest) =
-    pick (same_name (part t start len) name) (Property number kind) (find_in t name (number + 1) rest)
-find_in t name number (broken place) = Absent
-find_in t name number ended = Absent
+    pick (same_name (part t start len) name) (found number kind) (find_in t name (number + 1) rest)
+find_in t name number (broken place) = None
+find_in t name number ended = None
 
 -- the property of a name: its number, counted from 0, and its kind
-unfoldable pub find_property : List ℕ → (name : List ℕ) → Found
+unfoldable pub find_property : List ℕ → (name : List ℕ) → Option Property
 find_property t name = find_in t name 0 (property_records t)

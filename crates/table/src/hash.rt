@@ -9,10 +9,8 @@ pub fn hash_of(name: &[u8]) -> u16
     ensures { result ≡ hash_of name.now }
 {
     let mut h: u32 = 0;
-    let mut i = 0;
-    while i < name.len() {
-        h = (h * 31 + lower_of(name[i]) as u32) % 65536;
-        i += 1;
+    for byte in name {
+        h = (h * 31 + u32::from(lower_of(*byte))) % 65536;
     }
     h as u16
 }
@@ -22,10 +20,8 @@ pub fn has_hash(hash: u16, hashes: &[u16]) -> bool
     ensures { result ≡ has_hash hash hashes.now }
 {
     let mut found = false;
-    let mut i = 0;
-    while i < hashes.len() {
-        found = found | (hashes[i] == hash);
-        i += 1;
+    for other in hashes {
+        found |= *other == hash;
     }
     found
 }

@@ -3,27 +3,23 @@ ghost use Rattle.std.specs.Prelude.{◌≡◌};
 ghost use Rattle.record.specs.Name.{same_name};
 ghost use Rattle.table.specs.Properties.{class_name, first_property, find_property};
 
-use record::read::RecordAt;
+use record::read::{RecordAt, record_at};
+use record::walk::records_from;
 
-#[derive(Drop)]
-pub enum Found {
-    Property { number: usize, kind: usize },
-    Absent,
+// A property's number, counted from 0, and its kind.
+#[derive(Clone, Copy, PartialEq, Eq)]
+pub struct Property {
+    pub number: usize,
+    pub kind: usize,
 }
 
 // The class name.
 pub fn class_name(t: &[u8]) -> &[u8]
     ensures { result.now ≡ class_name t.now }
 {
-    match record::read::record_at(t, 0) {
-        RecordAt::Whole {
-            kind: _,
-            start,
-            length,
-            next: _,
-        } => base::bytes::piece(t, start, length),
-        RecordAt::Broken => base::bytes::piece(t, 0, 0),
-        RecordAt::End => base::bytes::piece(t, 0, 0),
+    match record_at(t, 0) {
+        RecordAt::Whole { start, length, .. } => base::bytes::piece(t, start, length),
+        _ => &t[..0],
     }
 }
 
@@ -38,40 +34,24 @@ pub fn is_class<'a>(t: &'a [u8], name: &'a [u8]) -> bool
 pub fn first_property(t: &[u8]) -> usize
     ensures { result ≡ first_property t.now }
 {
-    match record::read::record_at(t, 0) {
-        RecordAt::Whole {
-            kind: _,
-            start: _,
-            length: _,
-            next,
-        } => next,
-        RecordAt::Broken => t.len(),
-        RecordAt::End => t.len(),
+    match record_at(t, 0) {
+        RecordAt::Whole { next, .. } => next,
+        _ => t.len(),
     }
 }
 
-// The property of a name, counted from 0, with its kind.
-pub fn find_property<'a>(t: &'a [u8], name: &'a [u8]) -> Found
+// The property of a name.
+pub fn find_property<'a>(t: &'a [u8], name: &'a [u8]) -> Option<Property>
     ensures { result ≡ find_property t.now name.now }
 {
-    let mut at = first_property(t);
-    let mut number: usize = 0;
-    loop {
-        match record::read::record_at(t, at) {
-            RecordAt::Whole {
-                kind,
-                start,
-                length,
-                next,
-            } => {
-                if record::name::same_name(base::bytes::piece(t, start, length), name) {
-                    return Found::Property { number, kind };
-                }
-                at = next;
-                number += 1;
-            }
-            RecordAt::Broken => return Found::Absent,
-            RecordAt::End => return Found::Absent,
+    for (number, record) in records_from(t, first_property(t)).enumerate() {
+        let record = record.ok()?;
+        if record::name::same_name(record.body_in(t), name) {
+            return Some(Property {
+                number,
+                kind: record.kind,
+            });
         }
     }
+    None
 }

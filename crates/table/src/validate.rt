@@ -2,24 +2,26 @@
 ghost use Rattle.std.specs.Prelude.{◌≡◌, ◌≤◌, length, []};
 ghost use Rattle.record.specs.Record.{records};
 ghost use Rattle.record.specs.Reserved.{among};
-ghost use Rattle.table.specs.Table.{number_of, is_known, is_class, is_property, properties, table_reading};
+ghost use Rattle.table.specs.Table.{number_of, malformed, name_twice, is_known, is_class, is_property, properties, table_reading};
 ghost use Rattle.table.specs.Properties.{names_before};
 ghost use Rattle.table.specs.Hash.{hash_of, hashes_of};
 
 use crate::hash::{has_hash, hash_of};
 use record::kind::Kind;
-use record::read::RecordAt;
+use record::read::{RecordAt, record_at};
+use record::walk::records_from;
 
-#[derive(Clone, Copy)]
+#[derive(Clone, Copy, PartialEq, Eq)]
 pub enum TableFault {
     Malformed,
     NameTwice,
 }
 
-#[derive(Drop)]
-pub enum TableReading {
-    Good { count: usize },
-    Fault { cause: TableFault, place: usize },
+// A fault and its place.
+#[derive(Clone, Copy, PartialEq, Eq)]
+pub struct TableRefusal {
+    pub cause: TableFault,
+    pub place: usize,
 }
 
 // The refusal number of a fault.
@@ -32,11 +34,20 @@ pub fn number_of(cause: TableFault) -> usize
     }
 }
 
-fn malformed(place: usize) -> TableReading
-    ensures { result ≡ Rattle.table.specs.Table.malformed_at place }
+fn malformed(place: usize) -> TableRefusal
+    ensures { result ≡ malformed place }
 {
-    TableReading::Fault {
+    TableRefusal {
         cause: TableFault::Malformed,
+        place,
+    }
+}
+
+fn name_twice(place: usize) -> TableRefusal
+    ensures { result ≡ name_twice place }
+{
+    TableRefusal {
+        cause: TableFault::NameTwice,
         place,
     }
 }
@@ -44,11 +55,7 @@ fn malformed(place: usize) -> TableReading
 fn is_known(kind: Kind) -> bool
     ensures { result ≡ is_known kind }
 {
-    match kind {
-        Kind::Unknown => false,
-        Kind::Scalar(_) => true,
-        Kind::Array { element: _, of: _ } => true,
-    }
+    !matches!(kind, Kind::Unknown)
 }
 
 // Whether a record may be the class.
@@ -69,22 +76,15 @@ fn is_property_record(kind: usize, name: &[u8]) -> bool
 fn name_used(t: &[u8], first: usize, stop: usize, name: &[u8]) -> bool
     ensures { result ≡ among name.now (names_before t.now stop (records t.now first)) }
 {
-    let mut at = first;
-    while at < stop {
-        match record::read::record_at(t, at) {
-            RecordAt::Whole {
-                kind: _,
-                start,
-                length,
-                next,
-            } => {
-                if record::name::same_name(name, base::bytes::piece(t, start, length)) {
-                    return true;
-                }
-                at = next;
-            }
-            RecordAt::Broken => return false,
-            RecordAt::End => return false,
+    for record in records_from(t, first) {
+        let Ok(record) = record else {
+            return false;
+        };
+        if stop <= record.place {
+            return false;
+        }
+        if record::name::same_name(name, record.body_in(t)) {
+            return true;
         }
     }
     false
@@ -95,65 +95,42 @@ fn is_used(t: &[u8], first: usize, stop: usize, name: &[u8], hash: u16, hashes: 
     requires { (hash ≡ hash_of name.now) × (hashes.now ≡ hashes_of (names_before t.now stop (records t.now first))) }
     ensures { result ≡ among name.now (names_before t.now stop (records t.now first)) }
 {
-    if !has_hash(hash, hashes) {
-        return false;
-    }
-    name_used(t, first, stop, name)
+    has_hash(hash, hashes) && name_used(t, first, stop, name)
 }
 
-fn name_twice(place: usize) -> TableReading
-    ensures { result ≡ TableReading.Fault TableFault.NameTwice place }
-{
-    TableReading::Fault {
-        cause: TableFault::NameTwice,
-        place,
-    }
-}
-
-// The properties from `first` on.
-fn read_properties(t: &[u8], first: usize) -> TableReading
+// How many properties stand from `first` on.
+fn read_properties(t: &[u8], first: usize) -> Result<usize, TableRefusal>
     ensures { result ≡ properties t.now [] (records t.now first) }
 {
     let mut hashes = [0u16; 128];
-    let mut at = first;
     let mut count: usize = 0;
-    loop {
-        match record::read::record_at(t, at) {
-            RecordAt::Whole {
-                kind,
-                start,
-                length,
-                next,
-            } => {
-                if 128 <= count {
-                    return malformed(at);
-                }
-                let name = base::bytes::piece(t, start, length);
-                if !is_property_record(kind, name) {
-                    return malformed(at);
-                }
-                let hash = hash_of(name);
-                if is_used(t, first, at, name, hash, &hashes[..count]) {
-                    return name_twice(at);
-                }
-                hashes[count] = hash;
-                at = next;
-                count += 1;
-            }
-            RecordAt::Broken => return malformed(at),
-            RecordAt::End => return TableReading::Good { count },
+    for record in records_from(t, first) {
+        let record = record.map_err(malformed)?;
+        if 128 <= count {
+            return Err(malformed(record.place));
         }
+        let name = record.body_in(t);
+        if !is_property_record(record.kind, name) {
+            return Err(malformed(record.place));
+        }
+        let hash = hash_of(name);
+        if is_used(t, first, record.place, name, hash, &hashes[..count]) {
+            return Err(name_twice(record.place));
+        }
+        hashes[count] = hash;
+        count += 1;
     }
+    Ok(count)
 }
 
 // The number of a table's properties, or its first fault.
-pub fn read_table(t: &[u8]) -> TableReading
+pub fn read_table(t: &[u8]) -> Result<usize, TableRefusal>
     ensures { result ≡ table_reading t.now }
 {
     if 8192 < t.len() {
-        return malformed(0);
+        return Err(malformed(0));
     }
-    match record::read::record_at(t, 0) {
+    match record_at(t, 0) {
         RecordAt::Whole {
             kind,
             start,
@@ -161,11 +138,11 @@ pub fn read_table(t: &[u8]) -> TableReading
             next,
         } => {
             if !is_class_record(kind, base::bytes::piece(t, start, length)) {
-                return malformed(0);
+                return Err(malformed(0));
             }
             read_properties(t, next)
         }
-        RecordAt::Broken => malformed(0),
-        RecordAt::End => malformed(t.len()),
+        RecordAt::Broken => Err(malformed(0)),
+        RecordAt::End => Err(malformed(t.len())),
     }
 }

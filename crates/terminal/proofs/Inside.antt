@@ -1,4 +1,5 @@
 -- Tokens that may stand in an fql-expr, and words.
+use Rattle.std.specs.Prelude.{None, Some}
 use Prim.Native.Nat.{ℕ}
 use mathlib.Core.Path.{◌≡◌, refl, sym, ap, ◌∙◌}
 use mathlib.Core.List.{List}
@@ -14,7 +15,6 @@ use Rattle.token.specs.declared.Token.{Token}
 use Rattle.token.specs.Token.{is_token}
 use Rattle.token.proofs.Stands.{Standing, name_there, reserved_there}
 use Rattle.terminal.specs.declared.operator.BoolOp.{BoolOp}
-use Rattle.terminal.specs.declared.operator.Joining.TheVariants.{With, NoBoolOp}
 use Rattle.terminal.specs.Terminal.{same, word_kind, joining, inside}
 use Rattle.terminal.proofs.KindCodes.{kind_is}
 
@@ -81,13 +81,13 @@ word_there q t p e = go t.kind refl e
     go (Symbol m) z e = absurd (false≢true e)
 
 -- a bool-op stands inside of a group, or between two
-pub joins_inside : (t : Token) (o : BoolOp) → joining t ≡ With o → inside t.kind ≡ true
+pub joins_inside : (t : Token) (o : BoolOp) → joining t ≡ Some o → inside t.kind ≡ true
 unfolding joining
 joins_inside t o f = go (inside t.kind) refl
   where
     go : (b : Bool) → inside t.kind ≡ b → b ≡ true
     go true e = refl
     go false e =
-        let n : joining t ≡ NoBoolOp = rw (outside_other t (Word Reserved.And) refl e, outside_other t (Word Reserved.Or) refl e) refl in
+        let n : joining t ≡ None = rw (outside_other t (Word Reserved.And) refl e, outside_other t (Word Reserved.Or) refl e) refl in
         let z : ◌≡◌ {A = ℕ} 0 1 = cc in
         absurd (omega arith)

@@ -2,7 +2,7 @@
 use Prim.Native.Nat.{ℕ}
 use mathlib.Core.Path.{◌≡◌, refl, sym, ap, ◌∙◌}
 use mathlib.Core.List.{List, [], ◌∷◌}
-use mathlib.Core.Bool.{true, false}
+use mathlib.Core.Bool.{Bool, true, false, true≢false}
 use lib.Dec.{eqb}
 use lib.ListN.{get_or}
 use borrow.Author.Tests.{eqb-true, eq-eqb}
@@ -12,7 +12,6 @@ use Rattle.token.specs.declared.Form.TheVariants.{Decimal, Binary, Hex, Real}
 use Rattle.base.specs.declared.order.Operator.TheVariants.{Equal, Unequal, Less, AtMost, Greater, AtLeast}
 use Rattle.token.specs.declared.Punctuation.TheVariants.{Open, Close, OpenIndex, CloseIndex, OpenList, CloseList, Comma, Dot}
 use Rattle.token.specs.declared.TokenKind.{TokenKind}
-use Rattle.token.specs.declared.TokenKind.TheVariants as TokenKind
 use Rattle.token.specs.declared.TokenKind.TheVariants.{Name, Symbol, Word, Text, Number}
 use Rattle.token.specs.declared.Token.{Token}
 use Rattle.terminal.specs.Terminal.{same, code}
@@ -75,3 +74,11 @@ kind_is t k e = (says_kind t k).to e
 pub other : (t : Token) (k x : TokenKind) → same t k ≡ true → eqb (code k) (code x) ≡ false → same t x ≡ false
 unfolding same
 other t k x e f = ap (λ (n : ℕ). eqb n (code x)) (eqb-true (code t.kind) (code k) e) ∙ f
+
+-- what holds of a token's kind, and not of another, tells it from that one
+pub not_kind : (p : TokenKind → Bool) (t : Token) (k : TokenKind) → p k ≡ false → p t.kind ≡ true → same t k ≡ false
+not_kind p t k e h = go (same t k) refl
+  where
+    go : (b : Bool) → same t k ≡ b → b ≡ false
+    go true f = absurd (true≢false (sym h ∙ ap p (kind_is t k f) ∙ e))
+    go false f = refl

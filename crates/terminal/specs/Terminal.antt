@@ -1,5 +1,5 @@
 -- The terminals of DSP0212's first grammar group (000 5.3.1, 5.3.2; 01 "Query text"): what a token can be to the grammar.
-use Rattle.std.specs.Prelude.{ℕ, List, Bool, true, false, ◌&&◌, ◌||◌, eqb}
+use Rattle.std.specs.Prelude.{ℕ, List, Bool, true, false, ◌&&◌, ◌||◌, eqb, None, Option, Some}
 use Rattle.base.specs.Pick.{pick}
 use Rattle.base.specs.Part.{byte_at}
 use Rattle.scan.specs.Class.{in_class}
@@ -16,12 +16,7 @@ use Rattle.token.specs.declared.TokenKind.{TokenKind}
 use Rattle.token.specs.declared.TokenKind.TheVariants.{End, NoToken, Name, Word, Number, Text, Compare, Symbol}
 use Rattle.token.specs.declared.Token.{Token}
 use Rattle.terminal.specs.declared.quantifier.Quantifier.{Quantifier}
-use Rattle.terminal.specs.declared.quantifier.Quantifier.TheVariants as Quantifier
-use Rattle.terminal.specs.declared.operator.BoolOp.TheVariants as BoolOp
-use Rattle.terminal.specs.declared.operator.Comparing.{Comparing}
-use Rattle.terminal.specs.declared.operator.Comparing.TheVariants.{By, NoOperator}
-use Rattle.terminal.specs.declared.operator.Joining.{Joining}
-use Rattle.terminal.specs.declared.operator.Joining.TheVariants.{With, NoBoolOp}
+use Rattle.terminal.specs.declared.operator.BoolOp.{BoolOp}
 
 -- A number for each kind. Kinds hold other enums, so a test of two kinds case by case would take every pair of cases; numbers are tested at once.
 -- The law `code_tells` of proofs/KindCodes says that two kinds have one number only if they are equal.
@@ -115,17 +110,17 @@ unfoldable pub literal : Token → Bool
 literal t = literal_kind t.kind
 
 -- scalar-comp-op = "=" / "<>" / "<" / ">" / "<=" / ">="
-abbrev pub comparing_kind : TokenKind → Comparing
-comparing_kind End = NoOperator
-comparing_kind NoToken = NoOperator
-comparing_kind Name = NoOperator
-comparing_kind (Word w) = NoOperator
-comparing_kind (Number f) = NoOperator
-comparing_kind Text = NoOperator
-comparing_kind (Compare o) = By o
-comparing_kind (Symbol m) = NoOperator
+abbrev pub comparing_kind : TokenKind → Option Operator
+comparing_kind End = None
+comparing_kind NoToken = None
+comparing_kind Name = None
+comparing_kind (Word w) = None
+comparing_kind (Number f) = None
+comparing_kind Text = None
+comparing_kind (Compare o) = Some o
+comparing_kind (Symbol m) = None
 
-unfoldable pub comparing : Token → Comparing
+unfoldable pub comparing : Token → Option Operator
 comparing t = comparing_kind t.kind
 
 -- array-comp-op = "=" / "<>"
@@ -138,8 +133,8 @@ equality Greater = false
 equality AtLeast = false
 
 -- bool-op = AND / OR
-unfoldable pub joining : Token → Joining
-joining t = pick (same t (Word And)) (With BoolOp.And) (pick (same t (Word Or)) (With BoolOp.Or) NoBoolOp)
+unfoldable pub joining : Token → Option BoolOp
+joining t = pick (same t (Word And)) (Some BoolOp.And) (pick (same t (Word Or)) (Some BoolOp.Or) None)
 
 -- ANY / EVERY, or neither
 unfoldable pub quantifying : Token → Quantifier

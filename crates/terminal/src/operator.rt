@@ -1,6 +1,6 @@
 // scalar-comp-op, array-comp-op and bool-op.
 ghost use Rattle.std.specs.Prelude.{◌≡◌};
-ghost use Rattle.terminal.specs.Terminal.{comparing, comparing_kind, joining, equality};
+ghost use Rattle.terminal.specs.Terminal.{comparing, joining, equality};
 
 use crate::kind::is_kind;
 use base::order::Operator;
@@ -13,61 +13,31 @@ pub enum BoolOp {
     Or,
 }
 
-#[derive(Drop)]
-pub enum Comparing {
-    By(Operator),
-    NoOperator,
-}
-
-#[derive(Clone, Copy)]
-pub enum Joining {
-    With(BoolOp),
-    NoBoolOp,
-}
-
-fn comparing_kind(k: TokenKind) -> Comparing
-    ensures { result ≡ comparing_kind k }
-{
-    match k {
-        TokenKind::End => Comparing::NoOperator,
-        TokenKind::NoToken => Comparing::NoOperator,
-        TokenKind::Name => Comparing::NoOperator,
-        TokenKind::Word(_) => Comparing::NoOperator,
-        TokenKind::Number(_) => Comparing::NoOperator,
-        TokenKind::Text => Comparing::NoOperator,
-        TokenKind::Compare(o) => Comparing::By(o),
-        TokenKind::Symbol(_) => Comparing::NoOperator,
-    }
-}
-
-pub fn comparing_of(t: Token) -> Comparing
+#[tactic(auto, unfolding(crate::specs::Terminal::comparing))]
+pub fn comparing_of(t: Token) -> Option<Operator>
     ensures { result ≡ comparing t }
 {
-    let k = t.kind;
-    comparing_kind(k)
+    match t.kind {
+        TokenKind::Compare(o) => Some(o),
+        _ => None,
+    }
 }
 
 pub fn is_equality(o: Operator) -> bool
     ensures { result ≡ equality o }
 {
-    match o {
-        Operator::Equal => true,
-        Operator::Unequal => true,
-        Operator::Less => false,
-        Operator::AtMost => false,
-        Operator::Greater => false,
-        Operator::AtLeast => false,
-    }
+    matches!(o, Operator::Equal | Operator::Unequal)
 }
 
-pub fn joining_of(t: Token) -> Joining
+#[tactic(auto, unfolding(crate::specs::Terminal::joining))]
+pub fn joining_of(t: Token) -> Option<BoolOp>
     ensures { result ≡ joining t }
 {
     if is_kind(t, TokenKind::Word(Reserved::And)) {
-        return Joining::With(BoolOp::And);
+        return Some(BoolOp::And);
     }
     if is_kind(t, TokenKind::Word(Reserved::Or)) {
-        return Joining::With(BoolOp::Or);
+        return Some(BoolOp::Or);
     }
-    Joining::NoBoolOp
+    None
 }

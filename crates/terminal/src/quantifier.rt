@@ -5,7 +5,7 @@ ghost use Rattle.terminal.specs.Terminal.{quantifying, opening};
 use crate::kind::is_kind;
 use token::{Reserved, Token, TokenKind};
 
-// ANY, EVERY, or neither.
+// The three forms of a comparison: ANY, EVERY, or neither, which is a form of its own and so no None.
 #[derive(Clone, Copy)]
 pub enum Quantifier {
     Single,
@@ -13,6 +13,7 @@ pub enum Quantifier {
     Every,
 }
 
+#[tactic(auto, unfolding(crate::specs::Terminal::quantifying))]
 pub fn quantifier_of(t: Token) -> Quantifier
     ensures { result ≡ quantifying t }
 {
@@ -26,12 +27,12 @@ pub fn quantifier_of(t: Token) -> Quantifier
 }
 
 // Whether a comparison can start with a token.
+#[tactic(auto, unfolding(crate::specs::Terminal::opening))]
 pub fn is_opening(t: Token) -> bool
     ensures { result ≡ opening t }
 {
-    let a = is_kind(t, TokenKind::Name);
-    let b = is_kind(t, TokenKind::Word(Reserved::Not));
-    let c = is_kind(t, TokenKind::Word(Reserved::Any));
-    let d = is_kind(t, TokenKind::Word(Reserved::Every));
-    a | (b | (c | d))
+    is_kind(t, TokenKind::Name)
+        | is_kind(t, TokenKind::Word(Reserved::Not))
+        | is_kind(t, TokenKind::Word(Reserved::Any))
+        | is_kind(t, TokenKind::Word(Reserved::Every))
 }

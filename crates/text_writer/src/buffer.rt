@@ -16,10 +16,8 @@ pub fn write_text(out: &mut [u8], at: usize, text: &[u8]) -> usize
     ensures { Written out.old at text.now result out.new }
 {
     let mut place = at;
-    let mut i = 0;
-    while i < text.len() {
-        place = write_byte(out, place, text[i]);
-        i += 1;
+    for &b in text {
+        place = write_byte(out, place, b);
     }
     place
 }

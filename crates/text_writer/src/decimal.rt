@@ -9,7 +9,7 @@ fn digit_byte(n: usize) -> u8
     requires { n < 10 }
     ensures { result ≡ 48 + n }
 {
-    48 + n as u8
+    b'0' + n as u8
 }
 
 // The digits before the last one are those of a tenth of the number.

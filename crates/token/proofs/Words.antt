@@ -24,29 +24,73 @@ module _ (w : List ℕ) where
   other : (n : ℕ) → length w ≡ n → (l : List ℕ) → eqb n (length l) ≡ false → same_name w l ≡ false
   other n e l f = sym (same_lengths w l (λ z. eqb-false n (length l) f (sym e ∙ z)))
 
-  pub of_two_law : length w ≡ 2 → word_kind w ≡ pick (same_name w (bytes "OR")) (Word Or) Name
+  of_two_law : length w ≡ 2 → word_kind w ≡ pick (same_name w (bytes "OR")) (Word Or) Name
   unfolding word_kind
   of_two_law e =
       let o = other 2 e in
       rw (o (bytes "AND") refl, o (bytes "ANY") refl, o (bytes "EVERY") refl, o (bytes "FALSE") refl, o (bytes "LIKE") refl, o (bytes "NOT") refl, o (bytes "NULL") refl, o (bytes "TRUE") refl) refl
 
-  pub of_three_law : length w ≡ 3 → word_kind w ≡ pick (same_name w (bytes "AND")) (Word And) (pick (same_name w (bytes "ANY")) (Word Any) (pick (same_name w (bytes "NOT")) (Word Not) Name))
+  of_three_law : length w ≡ 3 → word_kind w ≡ pick (same_name w (bytes "AND")) (Word And) (pick (same_name w (bytes "ANY")) (Word Any) (pick (same_name w (bytes "NOT")) (Word Not) Name))
   unfolding word_kind
   of_three_law e =
       let o = other 3 e in
       rw (o (bytes "EVERY") refl, o (bytes "FALSE") refl, o (bytes "LIKE") refl, o (bytes "NULL") refl, o (bytes "OR") refl, o (bytes "TRUE") refl) refl
 
-  pub of_four : length w ≡ 4 → word_kind w ≡ pick (same_name w (bytes "LIKE")) (Word Like) (pick (same_name w (bytes "NULL")) (Word Null) (pick (same_name w (bytes "TRUE")) (Word True) Name))
+  of_four : length w ≡ 4 → word_kind w ≡ pick (same_name w (bytes "LIKE")) (Word Like) (pick (same_name w (bytes "NULL")) (Word Null) (pick (same_name w (bytes "TRUE")) (Word True) Name))
   unfolding word_kind
   of_four e =
       let o = other 4 e in
       rw (o (bytes "AND") refl, o (bytes "ANY") refl, o (bytes "EVERY") refl, o (bytes "FALSE") refl, o (bytes "NOT") refl, o (bytes "OR") refl) refl
 
-  pub of_five : length w ≡ 5 → word_kind w ≡ pick (same_name w (bytes "EVERY")) (Word Every) (pick (same_name w (bytes "FALSE")) (Word False) Name)
+  of_five : length w ≡ 5 → word_kind w ≡ pick (same_name w (bytes "EVERY")) (Word Every) (pick (same_name w (bytes "FALSE")) (Word False) Name)
   unfolding word_kind
   of_five e =
       let o = other 5 e in
       rw (o (bytes "AND") refl, o (bytes "ANY") refl, o (bytes "LIKE") refl, o (bytes "NOT") refl, o (bytes "NULL") refl, o (bytes "OR") refl, o (bytes "TRUE") refl) refl
+
+  -- each word, by its length and the words of that length that are tried before it
+  module _ (e : length w ≡ 2) where
+    pub spells_or : true ≡ same_name w (bytes "OR") → Word Or ≡ word_kind w
+    spells_or a = rw (of_two_law e, ← a)
+
+    pub none_of_2 : false ≡ same_name w (bytes "OR") → Name ≡ word_kind w
+    none_of_2 a = rw (of_two_law e, ← a)
+
+  module _ (e : length w ≡ 3) where
+    pub spells_and : true ≡ same_name w (bytes "AND") → Word And ≡ word_kind w
+    spells_and a = rw (of_three_law e, ← a)
+
+    pub spells_any : false ≡ same_name w (bytes "AND") → true ≡ same_name w (bytes "ANY") → Word Any ≡ word_kind w
+    spells_any a b = rw (of_three_law e, ← a, ← b)
+
+    pub spells_not : false ≡ same_name w (bytes "AND") → false ≡ same_name w (bytes "ANY") → true ≡ same_name w (bytes "NOT") → Word Not ≡ word_kind w
+    spells_not a b c = rw (of_three_law e, ← a, ← b, ← c)
+
+    pub none_of_3 : false ≡ same_name w (bytes "AND") → false ≡ same_name w (bytes "ANY") → false ≡ same_name w (bytes "NOT") → Name ≡ word_kind w
+    none_of_3 a b c = rw (of_three_law e, ← a, ← b, ← c)
+
+  module _ (e : length w ≡ 4) where
+    pub spells_like : true ≡ same_name w (bytes "LIKE") → Word Like ≡ word_kind w
+    spells_like a = rw (of_four e, ← a)
+
+    pub spells_null : false ≡ same_name w (bytes "LIKE") → true ≡ same_name w (bytes "NULL") → Word Null ≡ word_kind w
+    spells_null a b = rw (of_four e, ← a, ← b)
+
+    pub spells_true : false ≡ same_name w (bytes "LIKE") → false ≡ same_name w (bytes "NULL") → true ≡ same_name w (bytes "TRUE") → Word True ≡ word_kind w
+    spells_true a b c = rw (of_four e, ← a, ← b, ← c)
+
+    pub none_of_4 : false ≡ same_name w (bytes "LIKE") → false ≡ same_name w (bytes "NULL") → false ≡ same_name w (bytes "TRUE") → Name ≡ word_kind w
+    none_of_4 a b c = rw (of_four e, ← a, ← b, ← c)
+
+  module _ (e : length w ≡ 5) where
+    pub spells_every : true ≡ same_name w (bytes "EVERY") → Word Every ≡ word_kind w
+    spells_every a = rw (of_five e, ← a)
+
+    pub spells_false : false ≡ same_name w (bytes "EVERY") → true ≡ same_name w (bytes "FALSE") → Word False ≡ word_kind w
+    spells_false a b = rw (of_five e, ← a, ← b)
+
+    pub none_of_5 : false ≡ same_name w (bytes "EVERY") → false ≡ same_name w (bytes "FALSE") → Name ≡ word_kind w
+    none_of_5 a b = rw (of_five e, ← a, ← b)
 
   -- of any other length there is none
   abbrev OtherLength : Type 0

@@ -9,13 +9,13 @@ pub mod symbol;
 pub mod word;
 
 ghost use Rattle.std.specs.Prelude.{◌≡◌, ◌<◌, length};
-ghost use Rattle.token.specs.Token.{is_token, token_at, word_or_number, token_after, SpansIf};
+ghost use Rattle.token.specs.Token.{token, is_token, token_at, word_or_number, token_after, SpansIf};
 
 use crate::reader::{moved_past, next_token, reader_at};
 use base::order::Operator;
 
 // The reserved words of 000 5.3.1.
-#[derive(Clone, Copy)]
+#[derive(Clone, Copy, PartialEq, Eq)]
 pub enum Reserved {
     And,
     Any,
@@ -29,7 +29,7 @@ pub enum Reserved {
 }
 
 // decimal-literal, binary-literal, hex-literal, real-literal.
-#[derive(Clone, Copy)]
+#[derive(Clone, Copy, PartialEq, Eq)]
 pub enum Form {
     Decimal,
     Binary,
@@ -38,7 +38,7 @@ pub enum Form {
 }
 
 // `(` `)` `[` `]` `{` `}` `,` `.`
-#[derive(Clone, Copy)]
+#[derive(Clone, Copy, PartialEq, Eq)]
 pub enum Punctuation {
     Open,
     Close,
@@ -51,7 +51,7 @@ pub enum Punctuation {
 }
 
 // NoToken: what stands there is no token, or a word or number that touches another.
-#[derive(Clone, Copy)]
+#[derive(Clone, Copy, PartialEq, Eq)]
 pub enum TokenKind {
     End,
     NoToken,
@@ -64,41 +64,41 @@ pub enum TokenKind {
 }
 
 // A token's bytes are those from `start` up to `end`.
-#[derive(Clone, Copy)]
+#[derive(Clone, Copy, PartialEq, Eq)]
 pub struct Token {
     pub kind: TokenKind,
     pub start: usize,
     pub end: usize,
 }
 
-pub fn is_token(k: TokenKind) -> bool
-    ensures { result ≡ is_token k }
-{
-    match k {
-        TokenKind::End => false,
-        TokenKind::NoToken => false,
-        TokenKind::Name => true,
-        TokenKind::Word(_) => true,
-        TokenKind::Number(_) => true,
-        TokenKind::Text => true,
-        TokenKind::Compare(_) => true,
-        TokenKind::Symbol(_) => true,
+impl Token {
+    // What stands at a place where no token does.
+    pub(crate) fn none(at: usize) -> Token
+        ensures { result ≡ token TokenKind.NoToken at at }
+    {
+        Token {
+            kind: TokenKind::NoToken,
+            start: at,
+            end: at,
+        }
     }
 }
 
+#[tactic(auto, unfolding(crate::specs::Token::is_token))]
+pub fn is_token(k: TokenKind) -> bool
+    ensures { result ≡ is_token k }
+{
+    !matches!(k, TokenKind::End | TokenKind::NoToken)
+}
+
+#[tactic(auto, unfolding(crate::specs::Token::word_or_number))]
 pub fn is_word_or_number(k: TokenKind) -> bool
     ensures { result ≡ word_or_number k }
 {
-    match k {
-        TokenKind::End => false,
-        TokenKind::NoToken => false,
-        TokenKind::Name => true,
-        TokenKind::Word(_) => true,
-        TokenKind::Number(_) => true,
-        TokenKind::Text => false,
-        TokenKind::Compare(_) => false,
-        TokenKind::Symbol(_) => false,
-    }
+    matches!(
+        k,
+        TokenKind::Name | TokenKind::Word(_) | TokenKind::Number(_)
+    )
 }
 
 // The first token from a place on.
@@ -119,17 +119,9 @@ fn token_past(q: &[u8], t: Token) -> Token
 pub fn token_after(q: &[u8], t: Token) -> Token
     ensures { (result ≡ token_after q.now t) × SpansIf (length q.now) t.end result }
 {
-    let at = t.end;
-    let before = t.kind;
     let n = token_past(q, t);
-    let kind = n.kind;
-    let start = n.start;
-    if is_word_or_number(before) & is_word_or_number(kind) & (start == at) {
-        return Token {
-            kind: TokenKind::NoToken,
-            start,
-            end: start,
-        };
+    if is_word_or_number(t.kind) & is_word_or_number(n.kind) & (n.start == t.end) {
+        return Token::none(n.start);
     }
     n
 }

@@ -1,6 +1,5 @@
 // The longest of several matches.
 ghost use Rattle.std.specs.Prelude.{◌≡◌, ◌<◌, length};
-ghost use Rattle.base.specs.Pick.{pick};
 ghost use Rattle.numeral.specs.Numeral.{real_literal};
 ghost use Rattle.token.specs.Token.{fitted, longer, symbol_of, longest_at, Spans};
 
@@ -8,19 +7,10 @@ use crate::literals::{number_token, text_token};
 use crate::symbol::{symbol_of, symbol_token};
 use crate::word::word_token;
 use crate::{Form, Punctuation, Token, TokenKind};
-use base::bytes::in_range;
 use numeral::is_one_of;
 use record::name::is_letter;
 
-pub(crate) fn pick_kind(t: bool, a: TokenKind, b: TokenKind) -> TokenKind
-    ensures { result ≡ pick t a b }
-{
-    if t {
-        return a;
-    }
-    b
-}
-
+#[tactic(auto, unfolding(crate::specs::Token::fitted))]
 pub(crate) fn fit(k: TokenKind, s: usize, e: usize) -> Token
     ensures { result ≡ fitted k s e }
 {
@@ -31,22 +21,14 @@ pub(crate) fn fit(k: TokenKind, s: usize, e: usize) -> Token
             end: e,
         };
     }
-    Token {
-        kind: TokenKind::NoToken,
-        start: s,
-        end: s,
-    }
+    Token::none(s)
 }
 
+#[tactic(auto, unfolding(crate::specs::Token::longer))]
 pub(crate) fn longer_of(a: Token, b: Token) -> Token
     ensures { result ≡ longer a b }
 {
-    let x = a.end;
-    let y = b.end;
-    if x < y {
-        return b;
-    }
-    a
+    if a.end < b.end { b } else { a }
 }
 
 // A point begins a real number, or stands for itself.
@@ -71,7 +53,7 @@ pub(crate) fn longest_at(q: &[u8], s: usize) -> Token
     if is_letter(b) {
         return word_token(q, s);
     }
-    if in_range(b'0', b'9', b) | is_one_of(b'+', b'-', b) {
+    if b.is_ascii_digit() | is_one_of(b'+', b'-', b) {
         return number_token(q, s);
     }
     if b == b'\'' {

@@ -1,5 +1,6 @@
 // The reader of 01 "Query text": a slice and an offset. Each function is one step: the work stands in
 // `first`, and other crates call `token_at` and `token_after`, whose parameters are plain.
+// They are functions and no methods, since the walks of proofs/Calls speak of their contracts by these names.
 ghost use Rattle.std.specs.Prelude.{◌≡◌, length};
 ghost use Rattle.token.specs.Token.{SpansIf};
 ghost use Rattle.token.specs.Reader.{reader_at, next_token, moved_past};

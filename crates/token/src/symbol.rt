@@ -2,31 +2,23 @@
 ghost use Rattle.std.specs.Prelude.{◌≡◌, ◌+◌, ◌≤◌, ◌<◌, length};
 ghost use Rattle.token.specs.Token.{pair_kind, single_kind, symbol_of, symbol_token, Spans};
 
-use crate::longest::pick_kind;
 use crate::{Punctuation, Token, TokenKind, is_token};
+use base::bytes::byte_at;
 use base::order::Operator;
 
+#[tactic(auto, unfolding(crate::specs::Token::pair_kind))]
 pub(crate) fn pair_kind(b: u8, c: u8) -> TokenKind
     ensures { result ≡ pair_kind b c }
 {
-    if c == b'>' {
-        return pick_kind(
-            b == b'<',
-            TokenKind::Compare(Operator::Unequal),
-            TokenKind::NoToken,
-        );
+    match (b, c) {
+        (b'<', b'>') => TokenKind::Compare(Operator::Unequal),
+        (b'<', b'=') => TokenKind::Compare(Operator::AtMost),
+        (b'>', b'=') => TokenKind::Compare(Operator::AtLeast),
+        _ => TokenKind::NoToken,
     }
-    if c == b'=' {
-        let k = pick_kind(
-            b == b'>',
-            TokenKind::Compare(Operator::AtLeast),
-            TokenKind::NoToken,
-        );
-        return pick_kind(b == b'<', TokenKind::Compare(Operator::AtMost), k);
-    }
-    TokenKind::NoToken
 }
 
+#[tactic(auto, unfolding(crate::specs::Token::single_kind))]
 pub(crate) fn single_kind(b: u8) -> TokenKind
     ensures { result ≡ single_kind b }
 {
@@ -46,6 +38,7 @@ pub(crate) fn single_kind(b: u8) -> TokenKind
     }
 }
 
+#[tactic(auto, unfolding(crate::specs::Token::symbol_of))]
 pub(crate) fn symbol_of(k: TokenKind, s: usize, n: usize) -> Token
     requires { s + n ≤ 0x8000000000000000 }
     ensures { result ≡ symbol_of k s n }
@@ -57,19 +50,15 @@ pub(crate) fn symbol_of(k: TokenKind, s: usize, n: usize) -> Token
             end: s + n,
         };
     }
-    Token {
-        kind: TokenKind::NoToken,
-        start: s,
-        end: s,
-    }
+    Token::none(s)
 }
 
 pub(crate) fn symbol_token(q: &[u8], s: usize) -> Token
     requires { s < length q.now }
     ensures { (result ≡ symbol_token q.now s) × Spans (length q.now) s result }
 {
-    let b = base::bytes::byte_at(q, s);
-    let kind = pair_kind(b, base::bytes::byte_at(q, s + 1));
+    let b = byte_at(q, s);
+    let kind = pair_kind(b, byte_at(q, s + 1));
     if is_token(kind) {
         return Token {
             kind,

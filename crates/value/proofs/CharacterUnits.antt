@@ -24,12 +24,11 @@ use Rattle.string_literal.proofs.Ascii.{string_character}
 use Rattle.value.specs.declared.unit.Form.{Form}
 use Rattle.value.specs.declared.unit.Form.TheVariants.{Bytes, Utf8, Char16, Hex, Quoted, Encoded}
 use Rattle.value.specs.declared.class.Class.{Class}
-use Rattle.value.specs.declared.plain.Skipped.{Skipped}
-use Rattle.value.specs.declared.plain.Skipped.TheVariants.{Differ, Past}
-use Rattle.value.specs.Unit.{units_from}
-use Rattle.value.specs.Plain.{is_plain, is_in, is_bytes, is_utf8, is_characters, same_in, common_in, Common, Onward, Along, Skips}
+use Rattle.value.specs.declared.unit.Units.{Units}
+use Rattle.value.specs.Unit.{units_from, units}
+use Rattle.value.specs.Plain.{is_plain, is_in, is_bytes, is_utf8, is_characters, same_in, common_in, Common, Onward, Along}
 use Rattle.value.proofs.Laws.{quoted_next}
-use Rattle.value.proofs.PlainUnits.{plainly, Units, common_onward}
+use Rattle.value.proofs.PlainUnits.{plainly, Alone, common_onward}
 
 -- a sequence whose first byte is of the class is a unit in the form
 abbrev Characters : Class → Form → Type 0
@@ -57,7 +56,7 @@ plain_characters Bytes h s at i k z = absurd (apart h)
 plain_characters Utf8 h s at i k z = characters_next s at z
 plain_characters Char16 h s at i k z = absurd (apart h)
 plain_characters Hex h s at i k z = absurd (apart h)
-plain_characters Quoted h s at i k z = quoted_next s at (in_string s at i k z) (scalar_at s at) (at + sequence_at s at) refl
+plain_characters Quoted h s at i k z = quoted_next s at (in_string s at i k z) (scalar_at s at) (at + sequence_at s at) refl _ refl
 plain_characters (Encoded n) h s at i k z = absurd (apart h)
 
 -- any sequence where both forms are UTF-8, else those that a string literal has
@@ -125,7 +124,7 @@ module _ (c : Class) (f : Form) (a : List ℕ) (at : ℕ) (g : Form) (b : List �
       let x : at + (p - at) ≡ p = omega arith in
       further (p - at) i (reached_onward r (p - at) x (omega arith)) (rw x z) (rw x (omega arith)) h
 
-bytes_units : (c : Class) (f : Form) → is_bytes f ≡ true → Units c f
+bytes_units : (c : Class) (f : Form) → is_bytes f ≡ true → Alone c f
 unfolding units_from
 bytes_units c Bytes h s at i k = left_next s at i
 bytes_units c Utf8 h s at i k = absurd (apart h)
@@ -135,41 +134,37 @@ bytes_units c Quoted h s at i k = absurd (apart h)
 bytes_units c (Encoded n) h s at i k = absurd (apart h)
 
 -- ---- as the code meets them
-module _ (f : Form) (a : List ℕ) (at : ℕ) (g : Form) (b : List ℕ) (beside : ℕ) where
-  pub no_characters : Along f a at g b beside 0
+module _ (x y : Units) where
+  pub no_characters : Along x y 0
   no_characters =
-      record { within_left = omega arith; within_right = omega arith; onward = rw (add-zero at, add-zero beside) (record { same = refl; fewer = omega arith }) }
+      record { within_left = omega arith; within_right = omega arith; onward = rw (add-zero x.at, add-zero y.at) (record { same = refl; fewer = omega arith }) }
 
-  pub bytes_skipped : {l r : Bool} → l ≡ is_bytes f → r ≡ is_bytes g → (l && r) ≡ true → {n : ℕ} → Common (record { any = true; high = 0xEE }) a at b beside n → Along f a at g b beside n
+  pub bytes_skipped : {l r : Bool} → l ≡ is_bytes x.form → r ≡ is_bytes y.form → (l && r) ≡ true → {n : ℕ} → Common (record { any = true; high = 0xEE }) x.bytes.now x.at y.bytes.now y.at n → Along x y n
   bytes_skipped {l} {r} lefts rights test {n} run =
       let both = and_both l r test in
       let c : Class = record { any = true; high = 0xEE } in
       record {
         within_left = run.within_left;
         within_right = run.within_right;
-        onward = common_onward c f a at g b beside (bytes_units c f (sym lefts ∙ both.0)) (bytes_units c g (sym rights ∙ both.1)) n run.within_left run.within_right run.common;
+        onward = common_onward c x.form x.bytes.now x.at y.form y.bytes.now y.at (bytes_units c x.form (sym lefts ∙ both.0)) (bytes_units c y.form (sym rights ∙ both.1)) n run.within_left run.within_right run.common;
       }
 
-  module _ {l r : Bool} (lefts : l ≡ is_characters f) (rights : r ≡ is_characters g) (test : not (l && r) ≡ false) {x y : Bool} (utf8-left : x ≡ is_utf8 f) (utf8-right : y ≡ is_utf8 g) {n : ℕ}
-      (run : Common (record { any = x && y; high = 0xEE }) a at b beside n) where
-    pub characters_skipped : {k : ℕ} → Walked a at (at + n) k → Along f a at g b beside (k - at)
+  module _ {l r : Bool} (lefts : l ≡ is_characters x.form) (rights : r ≡ is_characters y.form) (test : not (l && r) ≡ false) {t u : Bool} (utf8-left : t ≡ is_utf8 x.form) (utf8-right : u ≡ is_utf8 y.form) {n : ℕ}
+      (run : Common (record { any = t && u; high = 0xEE }) x.bytes.now x.at y.bytes.now y.at n) where
+    pub characters_skipped : {k : ℕ} → Walked x.bytes.now x.at (x.at + n) k → Along x y (k - x.at)
     characters_skipped {k} walk =
         let both = and_both l r (not-false (l && r) test) in
-        let u = both_characters f g (sym lefts ∙ both.0) (sym rights ∙ both.1) (x && y) (rw (← utf8-left, ← utf8-right)) in
-        let few : k - at ≤ n = omega (arith, walk.ends) in
+        let v = both_characters x.form y.form (sym lefts ∙ both.0) (sym rights ∙ both.1) (t && u) (rw (← utf8-left, ← utf8-right)) in
+        let few : k - x.at ≤ n = omega (arith, walk.ends) in
         record {
           within_left = omega (arith, run.within_left);
           within_right = omega (arith, run.within_right);
-          onward = reached_onward (record { any = x && y; high = 0xEE }) f a at g b beside u.0 u.1 run walk.reaches (k - at) (omega (arith, walk.begins)) few;
+          onward = reached_onward (record { any = t && u; high = 0xEE }) x.form x.bytes.now x.at y.form y.bytes.now y.at v.0 v.1 run walk.reaches (k - x.at) (omega (arith, walk.begins)) few;
         }
 
 -- plain bytes, then characters
-module _ (f : Form) (a : List ℕ) (i : ℕ) (g : Form) (b : List ℕ) (j : ℕ) (s : Skipped) (es : Skips f a i g b j s) where
-  pub still_differ : s ≡ Differ → Skips f a i g b j Differ
-  still_differ p = rw p at es
-
-  pub skipped_further : (x y : ℕ) → s ≡ Past x y → {n : ℕ} → Along f a x g b y n → Skips f a i g b j (Past (x + n) (y + n))
-  skipped_further x y p along =
-      let before : Skips f a i g b j (Past x y) = rw p at es in
-      let after = along.onward in
-      record { same = before.same ∙ after.same; fewer = omega (arith, before.fewer, after.fewer) }
+pub skipped_further : {us vs : List ℕ} {x y : Units} → Onward us vs (units x) (units y) → {n : ℕ} → Along x y n → {us' vs' : List ℕ} → us' ≡ units_from x.form x.bytes.now (x.at + n)
+    → vs' ≡ units_from y.form y.bytes.now (y.at + n) → Onward us vs us' vs'
+skipped_further before along e f =
+    let after = along.onward in
+    rw (e, f) (record { same = before.same ∙ after.same; fewer = omega (arith, before.fewer, after.fewer) })

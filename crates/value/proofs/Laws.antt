@@ -7,6 +7,7 @@ use native.Mathlib.Omega.{arith}
 use lib.ListN.{length, drop, get_or, drop_of_length-le}
 use lib.Dec.{ltb}
 use borrow.Author.Tests.{eq-eqb, ne_eqb, lt-ltb, le-ltb, ltb-true, ltb-false}
+use Rattle.std.specs.Prelude.{Option, Some, None}
 use Rattle.base.specs.Part.{part, same_bytes}
 use Rattle.base.specs.Digit.{digit_of}
 use Rattle.base.proofs.Lists.{left_next}
@@ -19,30 +20,29 @@ use Rattle.string_literal.specs.declared.InString.{InString}
 use Rattle.string_literal.specs.declared.InString.TheVariants.{Character, Close, Bad}
 use Rattle.string_literal.specs.Char.{char_at}
 use Rattle.string_literal.specs.Text.{text_at, characters_of, bytes_of}
+use Rattle.string_literal.proofs.Bounds.{text_close, text_bad}
 use Rattle.string_literal.proofs.Filling as filling
-use Rattle.value.specs.declared.unit.Form.{Form}
 use Rattle.value.specs.declared.unit.Form.TheVariants.{Bytes, Utf8, Char16, Hex, Quoted, Encoded}
-use Rattle.value.specs.declared.unit.Next.{Next}
-use Rattle.value.specs.declared.unit.Next.TheVariants.{Unit, End}
-use Rattle.value.specs.Unit.{hex_pairs, utf8_after, units_from, Steps}
+use Rattle.value.specs.declared.unit.Units.{Units}
+use Rattle.value.specs.Unit.{hex_pairs, utf8_after, units_from, units, Steps}
 
 -- bytes
 module _ (s : List ℕ) (at : ℕ) where
-  pub byte_next : at < length s → (v : ℕ) → v ≡ get_or s at 0 → Steps Bytes s at (Unit v Bytes (at + 1))
+  pub byte_next : at < length s → (v : ℕ) → v ≡ get_or s at 0 → units_from Bytes s at ≡ v ∷ units_from Bytes s (at + 1)
   unfolding units_from
   byte_next h v e = rw e (left_next s at h)
 
-  pub byte_end : length s ≤ at → Steps Bytes s at End
+  pub byte_end : length s ≤ at → units_from Bytes s at ≡ []
   unfolding units_from
   byte_end h = drop_of_length-le s h
 
 -- the characters of UTF-8
 module _ (s : List ℕ) (at n : ℕ) (e : n ≡ sequence_at s at) where
-  pub character_next : (n ≡ 0 → ⊥) → (v : ℕ) (body : List ℕ) → body ≡ part s at n → v ≡ scalar_of body → Steps Utf8 s at (Unit v Utf8 (at + n))
+  pub character_next : (n ≡ 0 → ⊥) → (v : ℕ) (body : List ℕ) → body ≡ part s at n → v ≡ scalar_of body → units_from Utf8 s at ≡ v ∷ units_from Utf8 s (at + n)
   unfolding units_from scalar_at
   character_next h v body f g = rw (g, f, e) (characters_next s at (λ z. h (e ∙ z)))
 
-  pub character_end : n ≡ 0 → Steps Utf8 s at End
+  pub character_end : n ≡ 0 → units_from Utf8 s at ≡ []
   unfolding units_from
   character_end h = characters_stop s at (sym e ∙ h)
 
@@ -51,44 +51,47 @@ module _ (s : List ℕ) (at n : ℕ) (e : n ≡ sequence_at s at) where
 
 -- the one character of a char16
 module _ (s : List ℕ) (at : ℕ) where
-  pub char16_next : at ≡ 0 → (v : ℕ) → v ≡ number_at s 0 → Steps Char16 s at (Unit v Char16 1)
+  pub char16_next : at ≡ 0 → (v : ℕ) → v ≡ number_at s 0 → units_from Char16 s at ≡ v ∷ units_from Char16 s 1
   unfolding units_from
   char16_next h v e = rw (h, e)
 
-  pub char16_end : (at ≡ 0 → ⊥) → Steps Char16 s at End
+  pub char16_end : (at ≡ 0 → ⊥) → units_from Char16 s at ≡ []
   unfolding units_from
   char16_end h = rw (ne_eqb _ _ h)
 
 -- pairs of hex digits
 module _ (s : List ℕ) (at : ℕ) where
-  pub pair_end : length s ≤ at → Steps Hex s at End
+  pub pair_end : length s ≤ at → units_from Hex s at ≡ []
   unfolding units_from hex_pairs
   pair_end h = rw (drop_of_length-le s h)
 
-  pub pair_half : at < length s → length s - at < 2 → Steps Hex s at End
+  pub pair_half : at < length s → length s - at < 2 → units_from Hex s at ≡ []
   unfolding units_from hex_pairs
   pair_half h k = let l : length s ≤ at + 1 = omega arith in rw (left_next s at h, drop_of_length-le s l)
 
   pub pair_next : 2 ≤ length s - at → (high low : ℕ) → high ≡ digit_of (get_or s at 0) → low ≡ digit_of (get_or s (at + 1) 0)
-      → Steps Hex s at (Unit (high * 16 + low) Hex (at + 2))
+      → units_from Hex s at ≡ (high * 16 + low) ∷ units_from Hex s (at + 2)
   unfolding units_from hex_pairs
   pair_next h high low e f =
       let k : at + 1 + 1 ≡ at + 2 = omega arith in
       rw (left_next s at (omega arith), left_next s (at + 1) (omega arith), k, e, f)
 
+-- no character stands at the place
+no_character : {r : InString} (s : List ℕ) (at : ℕ) → r ≡ char_at s at → ((v next : ℕ) → r ≡ Character v next → ⊥) → characters_of (text_at s at) ≡ []
+unfolding characters_of
+no_character {r = Character v next} s at e h = absurd (h v next refl)
+no_character {r = Close} s at e h = rw (text_close s at (sym e))
+no_character {r = Bad} s at e h = rw (text_bad s at (sym e))
+
 -- the characters of a string literal
 module _ {r : InString} (s : List ℕ) (at : ℕ) (e : r ≡ char_at s at) where
-  pub quoted_next : (v next : ℕ) → r ≡ Character v next → Steps Quoted s at (Unit v Quoted next)
+  pub quoted_next : (c next : ℕ) → r ≡ Character c next → (v : ℕ) → v ≡ c → units_from Quoted s at ≡ v ∷ units_from Quoted s next
   unfolding units_from
-  quoted_next v next f = filling.next_character s at e v next f
+  quoted_next c next f v is = rw is (filling.next_character s at e c next f)
 
-  pub quoted_close : r ≡ Close → Steps Quoted s at End
+  pub quoted_end : ((v next : ℕ) → r ≡ Character v next → ⊥) → units_from Quoted s at ≡ []
   unfolding units_from
-  quoted_close f = filling.at_close s at e f
-
-  pub quoted_bad : r ≡ Bad → Steps Quoted s at End
-  unfolding units_from
-  quoted_bad f = filling.at_bad s at e f
+  quoted_end h = no_character s at e h
 
 -- the sequence of a scalar value, by its length
 module _ (v k : ℕ) where
@@ -158,33 +161,32 @@ utf8_whole (v ∷ vs) = rw (lt-ltb 0 (length (encode v)) (encode_some v))
 
 -- the UTF-8 of a string literal's characters
 module _ {r : InString} (s : List ℕ) (at : ℕ) (e : r ≡ char_at s at) (k : ℕ) where
-  pub encoded_close : r ≡ Close → Steps (Encoded k) s at End
+  pub encoded_end : ((v next : ℕ) → r ≡ Character v next → ⊥) → units_from (Encoded k) s at ≡ []
   unfolding units_from utf8_after
-  encoded_close f = rw (filling.at_close s at e f)
+  encoded_end h = rw (no_character s at e h)
 
-  pub encoded_bad : r ≡ Bad → Steps (Encoded k) s at End
-  unfolding units_from utf8_after
-  encoded_bad f = rw (filling.at_bad s at e f)
+  module _ (c next : ℕ) (f : r ≡ Character c next) (v : ℕ) (same : v ≡ c) (n : ℕ) (long : n ≡ length (encode v)) where
+    stands : characters_of (text_at s at) ≡ v ∷ characters_of (text_at s next)
+    stands = rw same (filling.next_character s at e c next f)
 
-  module _ (v next : ℕ) (f : r ≡ Character v next) (n : ℕ) (long : n ≡ length (encode v)) where
-    pub encoded_past : n ≤ k → Steps (Encoded k) s at End
+    pub encoded_past : n ≤ k → units_from (Encoded k) s at ≡ []
     unfolding units_from utf8_after
-    encoded_past h = rw (filling.next_character s at e v next f, le-ltb k (length (encode v)) (rw long at h))
+    encoded_past h = rw (stands, le-ltb k (length (encode v)) (rw long at h))
 
     left : k < n → utf8_after k (characters_of (text_at s at)) ≡ get_or (encode v) k 0 ∷ (drop (k + 1) (encode v) ++ bytes_of (characters_of (text_at s next)))
     unfolding utf8_after
     left h =
         let l : k < length (encode v) = rw long at h in
-        rw (filling.next_character s at e v next f, lt-ltb k (length (encode v)) l, left_next (encode v) k l)
+        rw (stands, lt-ltb k (length (encode v)) l, left_next (encode v) k l)
 
     module _ (b : ℕ) (is : b ≡ get_or (encode v) k 0) (here : k < n) where
-      pub encoded_more : k + 1 < n → Steps (Encoded k) s at (Unit b (Encoded (k + 1)) at)
+      pub encoded_more : k + 1 < n → units_from (Encoded k) s at ≡ b ∷ units_from (Encoded (k + 1)) s at
       unfolding units_from utf8_after
       encoded_more h =
           let l : k + 1 < length (encode v) = rw long at h in
-          left here ∙ rw (is, filling.next_character s at e v next f, lt-ltb (k + 1) (length (encode v)) l)
+          left here ∙ rw (is, stands, lt-ltb (k + 1) (length (encode v)) l)
 
-      pub encoded_last : n ≤ k + 1 → Steps (Encoded k) s at (Unit b (Encoded 0) next)
+      pub encoded_last : n ≤ k + 1 → units_from (Encoded k) s at ≡ b ∷ units_from (Encoded 0) s next
       unfolding units_from
       encoded_last h =
           let l : length (encode v) ≤ k + 1 = rw long at h in
@@ -194,46 +196,31 @@ pub encoded_here : (v k n : ℕ) → n ≡ length (encode v) → k < n → k < l
 encoded_here v k n e h = rw e at h
 
 -- the next units of two sequences, as the code meets them
-module _ (f : Form) (a : List ℕ) (i : ℕ) (g : Form) (b : List ℕ) (j : ℕ) (x y : Next) (ex : Steps f a i x) (ey : Steps g b j y) where
-  pub units_both_end : x ≡ End → y ≡ End → true ≡ same_bytes (units_from f a i) (units_from g b j)
+module _ (us vs : List ℕ) (x y : Option (ℕ × Units)) (ex : Steps us x) (ey : Steps vs y) where
+  pub units_both_end : x ≡ None → y ≡ None → true ≡ same_bytes us vs
   unfolding same_bytes
   units_both_end p q =
-      let u : Steps f a i End = rw p at ex in
-      let v : Steps g b j End = rw q at ey in
+      let u : Steps us None = rw p at ex in
+      let v : Steps vs None = rw q at ey in
       rw (u, v)
 
-  pub units_longer : (m : ℕ) (h : Form) (k : ℕ) → x ≡ Unit m h k → y ≡ End → false ≡ same_bytes (units_from f a i) (units_from g b j)
-  unfolding same_bytes
-  units_longer m h k p q =
-      let u : Steps f a i (Unit m h k) = rw p at ex in
-      let v : Steps g b j End = rw q at ey in
-      rw (u, v)
-
-  pub units_shorter : (m : ℕ) (h : Form) (k : ℕ) → x ≡ End → y ≡ Unit m h k → false ≡ same_bytes (units_from f a i) (units_from g b j)
-  unfolding same_bytes
-  units_shorter m h k p q =
-      let u : Steps f a i End = rw p at ex in
-      let v : Steps g b j (Unit m h k) = rw q at ey in
-      rw (u, v)
-
-  module _ (m : ℕ) (h : Form) (k : ℕ) (p : x ≡ Unit m h k) (n : ℕ) (e : Form) (l : ℕ) (q : y ≡ Unit n e l) where
-    pub units_differ : (m ≡ n → ⊥) → false ≡ same_bytes (units_from f a i) (units_from g b j)
+  module _ (m : ℕ) (h : Units) (p : x ≡ Some (m, h)) (n : ℕ) (e : Units) (q : y ≡ Some (n, e)) where
+    pub units_differ : (m ≡ n → ⊥) → false ≡ same_bytes us vs
     unfolding same_bytes
     units_differ d =
-        let u : Steps f a i (Unit m h k) = rw p at ex in
-        let v : Steps g b j (Unit n e l) = rw q at ey in
+        let u : Steps us (Some (m, h)) = rw p at ex in
+        let v : Steps vs (Some (n, e)) = rw q at ey in
         rw (u, v, ne_eqb m n d)
 
-    pub units_next : m ≡ n → same_bytes (units_from f a i) (units_from g b j) ≡ same_bytes (units_from h a k) (units_from e b l)
+    pub units_next : m ≡ n → same_bytes us vs ≡ same_bytes (units h) (units e)
     unfolding same_bytes
     units_next d =
-        let u : Steps f a i (Unit m h k) = rw p at ex in
-        let v : Steps g b j (Unit n e l) = rw q at ey in
+        let u : Steps us (Some (m, h)) = rw p at ex in
+        let v : Steps vs (Some (n, e)) = rw q at ey in
         rw (u, v, eq-eqb m n d)
 
 -- each unit leaves fewer
-pub units_fewer : (f : Form) (a : List ℕ) (i : ℕ) (x : Next) → Steps f a i x → (m : ℕ) (h : Form) (k : ℕ) → x ≡ Unit m h k
-    → length (units_from h a k) < length (units_from f a i)
-units_fewer f a i x ex m h k p =
-    let u : Steps f a i (Unit m h k) = rw p at ex in
+pub units_fewer : (us : List ℕ) (x : Option (ℕ × Units)) → Steps us x → (m : ℕ) (h : Units) → x ≡ Some (m, h) → length (units h) < length us
+units_fewer us x ex m h p =
+    let u : Steps us (Some (m, h)) = rw p at ex in
     rw u (omega arith)

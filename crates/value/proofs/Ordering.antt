@@ -5,6 +5,10 @@ use mathlib.Core.Bool.{Bool, true, false, not}
 use mathlib.Core.Path.{◌≡◌, refl, sym, ap, ◌∙◌}
 use mathlib.Core.Option.{none, some}
 use borrow.Author.Tests.{not-true, not-false}
+use denote.Enum.Bare.{sameb}
+use lib.Ieee.{Float}
+use lib.IntN.{ℤ}
+use Rattle.datetime.specs.declared.Datetime as datetimes
 use Rattle.base.proofs.Says.{apart}
 use Rattle.base.specs.Pick.{pick}
 use Rattle.base.specs.Part.{part, same_bytes}
@@ -13,6 +17,7 @@ use Rattle.base.specs.declared.order.Order.{Order}
 use Rattle.base.specs.declared.order.Order.TheVariants.{Undecided}
 use Rattle.base.specs.declared.order.Operator.{Operator}
 use Rattle.instance.specs.Value.{ScalarValue, truth, whole, real, datetime}
+use Rattle.value.specs.contracts.item.Sort.{the_type}
 use Rattle.value.specs.declared.item.Sort.{Sort}
 use Rattle.value.specs.declared.item.Sort.TheVariants.{Text, Octets, Reference}
 use Rattle.value.specs.declared.item.Sequence as sequence
@@ -20,14 +25,14 @@ use Rattle.value.specs.declared.item.Item.{Item}
 use Rattle.value.specs.declared.item.Item.TheVariants as item
 use Rattle.value.specs.Unit.{units_from}
 use Rattle.value.specs.Compare.{equality, order_of_scalars, order_of, null_holds, compares}
-use Rattle.value.specs.Item.{same_sort, listed, sequence_value, item_value, is_null_item, Against}
+use Rattle.value.specs.Item.{listed, sequence_value, item_value, is_null_item}
 
 -- a value that is no sequence
 pub data Plain : ScalarValue → Type 0 where
   plain_truth : {b : Bool} → Plain (truth b)
-  plain_whole : {n : lib.IntN.ℤ} → Plain (whole n)
-  plain_real : {x : lib.Ieee.Float} → Plain (real x)
-  plain_datetime : {d : Rattle.datetime.specs.declared.Datetime.Datetime} → Plain (datetime d)
+  plain_whole : {n : ℤ} → Plain (whole n)
+  plain_real : {x : Float} → Plain (real x)
+  plain_datetime : {d : datetimes.Datetime} → Plain (datetime d)
 
 pub plain_listed : {x : ScalarValue} → Plain x → (sort : Sort) (us : List ℕ) → Undecided ≡ order_of_scalars x (listed sort us)
 unfolding order_of_scalars listed
@@ -59,7 +64,7 @@ listed_plain plain_datetime Text us = refl
 listed_plain plain_datetime Octets us = refl
 listed_plain plain_datetime Reference us = refl
 
-pub listed_order : (s t : Sort) (us ws : List ℕ) → order_of_scalars (listed s us) (listed t ws) ≡ pick (same_sort s t) (equality (same_bytes us ws)) Undecided
+listed_order : (s t : Sort) (us ws : List ℕ) → order_of_scalars (listed s us) (listed t ws) ≡ pick (sameb the_type s t) (equality (same_bytes us ws)) Undecided
 unfolding order_of_scalars listed
 listed_order Text Text us ws = refl
 listed_order Text Octets us ws = refl
@@ -71,29 +76,65 @@ listed_order Reference Text us ws = refl
 listed_order Reference Octets us ws = refl
 listed_order Reference Reference us ws = refl
 
--- a plain value beside each item
-module _ (x : ScalarValue) (y : Item) where
-  pub against_null : y ≡ item.Null → Against x y Undecided
+-- an item beside one of another sort
+module _ (a b : List ℕ) (x : Item) where
+  pub beside_null : x ≡ item.Null → (y : Item) → Undecided ≡ order_of (item_value a x) (item_value b y)
   unfolding item_value
-  against_null e s = rw e
+  beside_null e y = rw e
 
-  pub against_sequence : Plain x → (q : sequence.Sequence) → y ≡ item.Sequence q → Against x y Undecided
-  unfolding item_value
-  against_sequence p q e s = rw e (plain_listed p q.sort (units_from q.form (part s q.start q.length) q.at))
+  pub beside_truth : (m : Bool) → x ≡ item.Truth m → (y : Item) → ((n : Bool) → y ≡ item.Truth n → ⊥) → Undecided ≡ order_of (item_value a x) (item_value b y)
+  unfolding item_value order_of_scalars
+  beside_truth m e item.Null h = rw e
+  beside_truth m e (item.Truth n) h = absurd (h n refl)
+  beside_truth m e (item.Integer n) h = rw e
+  beside_truth m e (item.Real n) h = rw e
+  beside_truth m e (item.Datetime n) h = rw e
+  beside_truth m e (item.Sequence n) h = rw e (plain_listed plain_truth n.sort (units_from n.form (part b n.start n.length) n.at))
+
+  pub beside_whole : (m : ℤ) → x ≡ item.Integer m → (y : Item) → ((n : ℤ) → y ≡ item.Integer n → ⊥) → Undecided ≡ order_of (item_value a x) (item_value b y)
+  unfolding item_value order_of_scalars
+  beside_whole m e item.Null h = rw e
+  beside_whole m e (item.Truth n) h = rw e
+  beside_whole m e (item.Integer n) h = absurd (h n refl)
+  beside_whole m e (item.Real n) h = rw e
+  beside_whole m e (item.Datetime n) h = rw e
+  beside_whole m e (item.Sequence n) h = rw e (plain_listed plain_whole n.sort (units_from n.form (part b n.start n.length) n.at))
+
+  pub beside_real : (m : Float) → x ≡ item.Real m → (y : Item) → ((n : Float) → y ≡ item.Real n → ⊥) → Undecided ≡ order_of (item_value a x) (item_value b y)
+  unfolding item_value order_of_scalars
+  beside_real m e item.Null h = rw e
+  beside_real m e (item.Truth n) h = rw e
+  beside_real m e (item.Integer n) h = rw e
+  beside_real m e (item.Real n) h = absurd (h n refl)
+  beside_real m e (item.Datetime n) h = rw e
+  beside_real m e (item.Sequence n) h = rw e (plain_listed plain_real n.sort (units_from n.form (part b n.start n.length) n.at))
+
+  pub beside_datetime : (m : datetimes.Datetime) → x ≡ item.Datetime m → (y : Item) → ((n : datetimes.Datetime) → y ≡ item.Datetime n → ⊥) → Undecided ≡ order_of (item_value a x) (item_value b y)
+  unfolding item_value order_of_scalars
+  beside_datetime m e item.Null h = rw e
+  beside_datetime m e (item.Truth n) h = rw e
+  beside_datetime m e (item.Integer n) h = rw e
+  beside_datetime m e (item.Real n) h = rw e
+  beside_datetime m e (item.Datetime n) h = absurd (h n refl)
+  beside_datetime m e (item.Sequence n) h = rw e (plain_listed plain_datetime n.sort (units_from n.form (part b n.start n.length) n.at))
+
+  pub beside_sequence : (m : sequence.Sequence) → x ≡ item.Sequence m → (y : Item) → ((n : sequence.Sequence) → y ≡ item.Sequence n → ⊥) → Undecided ≡ order_of (item_value a x) (item_value b y)
+  unfolding item_value order_of_scalars
+  beside_sequence m e item.Null h = rw e
+  beside_sequence m e (item.Truth n) h = rw e (listed_plain plain_truth m.sort (units_from m.form (part a m.start m.length) m.at))
+  beside_sequence m e (item.Integer n) h = rw e (listed_plain plain_whole m.sort (units_from m.form (part a m.start m.length) m.at))
+  beside_sequence m e (item.Real n) h = rw e (listed_plain plain_real m.sort (units_from m.form (part a m.start m.length) m.at))
+  beside_sequence m e (item.Datetime n) h = rw e (listed_plain plain_datetime m.sort (units_from m.form (part a m.start m.length) m.at))
+  beside_sequence m e (item.Sequence n) h = absurd (h n refl)
 
 -- two sequences
-module _ (a : List ℕ) (x : sequence.Sequence) (b : List ℕ) (y : sequence.Sequence) (t : Bool) (is : t ≡ same_sort x.sort y.sort) where
-  by_units : order_of_scalars (sequence_value a x) (sequence_value b y)
-      ≡ pick t (equality (same_bytes (units_from x.form (part a x.start x.length) x.at) (units_from y.form (part b y.start y.length) y.at))) Undecided
-  by_units = rw (listed_order, is)
+module _ (a : List ℕ) (x : sequence.Sequence) (b : List ℕ) (y : sequence.Sequence) (t : Bool) (is : t ≡ not (sameb the_type x.sort y.sort)) where
+  pub sorts_differ : t ≡ true → Undecided ≡ order_of_scalars (sequence_value a x) (sequence_value b y)
+  sorts_differ h = rw (listed_order, not-true (sameb the_type x.sort y.sort) (sym is ∙ h))
 
-  pub sorts_differ : not t ≡ true → Undecided ≡ order_of_scalars (sequence_value a x) (sequence_value b y)
-  sorts_differ h = rw (by_units, not-true t h)
-
-  pub sorts_agree : not t ≡ false → (p q : List ℕ) → p ≡ part a x.start x.length → q ≡ part b y.start y.length → (u : Bool)
-      → u ≡ same_bytes (units_from x.form p x.at) (units_from y.form q y.at) → (o : Order) → o ≡ equality u
-      → o ≡ order_of_scalars (sequence_value a x) (sequence_value b y)
-  sorts_agree h p q e f u g o k = rw (by_units, not-false t h, ← e, ← f, ← g) k
+  pub sorts_agree : t ≡ false → (us ws : List ℕ) → us ≡ units_from x.form (part a x.start x.length) x.at → ws ≡ units_from y.form (part b y.start y.length) y.at → (u : Bool)
+      → u ≡ same_bytes us ws → (o : Order) → o ≡ equality u → o ≡ order_of_scalars (sequence_value a x) (sequence_value b y)
+  sorts_agree h us ws e f u g o k = rw (listed_order, not-false (sameb the_type x.sort y.sort) (sym is ∙ h), ← e, ← f, ← g) k
 
 -- NULL
 null_none : (x : Item) (s : List ℕ) → is_null_item x ≡ true → item_value s x ≡ none

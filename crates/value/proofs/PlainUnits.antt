@@ -9,6 +9,7 @@ use native.Mathlib.Omega.{arith}
 use lib.ListN.{length}
 use lib.Dec.{eqb, leb}
 use borrow.Author.Tests.{eqb-true, ne_eqb, eq-eqb, le-leb, leb-true, not-true, not-false}
+use Rattle.std.specs.Prelude.{Option, Some, None}
 use Rattle.base.specs.Part.{byte_at, same_bytes}
 use Rattle.base.specs.Range.{within}
 use Rattle.base.proofs.Says.{and_both, apart}
@@ -22,11 +23,10 @@ use Rattle.string_literal.proofs.Ascii.{low_byte}
 use Rattle.value.specs.declared.unit.Form.{Form}
 use Rattle.value.specs.declared.unit.Form.TheVariants.{Bytes, Utf8, Char16, Hex, Quoted, Encoded}
 use Rattle.value.specs.declared.class.Class.{Class}
-use Rattle.value.specs.declared.plain.Skipped.{Skipped}
-use Rattle.value.specs.declared.plain.Skipped.TheVariants.{Differ, Past}
+use Rattle.value.specs.declared.unit.Units.{Units}
 use Rattle.value.specs.declared.same.Pair.{Pair}
-use Rattle.value.specs.declared.same.Pair.TheVariants as pair
-use Rattle.value.specs.Unit.{units_from}
+use Rattle.value.specs.declared.same.Pair.TheVariants.{Same, Differ, Ended}
+use Rattle.value.specs.Unit.{units_from, units}
 use Rattle.value.specs.Plain.{is_plain, is_in, plain_class, is_bytewise, same_in, other_plain, common_in, Common, Onward, Skips, Pairs}
 use Rattle.value.proofs.Laws.{quoted_next, encoded_last, one_length, one_byte}
 
@@ -78,18 +78,15 @@ module _ (s : List ℕ) (at : ℕ) (plain : is_plain 0x7E (byte_at s at) ≡ tru
   plain_unit Utf8 h = rw (← low.0, ← low.1) (characters_next s at (λ z. absurd (omega (arith, low.0))))
   plain_unit Char16 h = absurd (apart h)
   plain_unit Hex h = absurd (apart h)
-  plain_unit Quoted h = quoted_next s at in_string (byte_at s at) (at + 1) refl
+  plain_unit Quoted h = quoted_next s at in_string (byte_at s at) (at + 1) refl _ refl
   plain_unit (Encoded k) h = rw (eqb-true k 0 h) first
     where
       first : units_from (Encoded 0) s at ≡ byte_at s at ∷ units_from (Encoded 0) s (at + 1)
-      first = encoded_last s at in_string 0 (byte_at s at) (at + 1) refl 1 (one_length (byte_at s at) 0 below) (byte_at s at) (one_byte (byte_at s at) 0 below (omega (arith, one_length (byte_at s at) 0 below))) (omega arith) (omega arith)
+      first = encoded_last s at in_string 0 (byte_at s at) (at + 1) refl _ refl 1 (one_length (byte_at s at) 0 below) (byte_at s at) (one_byte (byte_at s at) 0 below (omega (arith, one_length (byte_at s at) 0 below))) (omega arith) (omega arith)
 
 -- a byte of the class is its own unit in the form
-abbrev pub Units : Class → Form → Type 0
-Units c f = (s : List ℕ) (at : ℕ) → at < length s → is_in c (byte_at s at) ≡ true → units_from f s at ≡ byte_at s at ∷ units_from f s (at + 1)
-
-pub encoded_bytewise : (f : Form) (k : ℕ) → f ≡ Encoded k → eqb k 0 ≡ is_bytewise f
-encoded_bytewise f k e = rw e
+abbrev pub Alone : Class → Form → Type 0
+Alone c f = (s : List ℕ) (at : ℕ) → at < length s → is_in c (byte_at s at) ≡ true → units_from f s at ≡ byte_at s at ∷ units_from f s (at + 1)
 
 module _ (c : Class) where
   -- one byte more, and one run behind another
@@ -115,13 +112,13 @@ module _ (c : Class) where
       pub common_found : Common c a at b beside n
       common_found = record { within_left = omega arith; within_right = omega arith; common = common }
 
-      pub block_more : {r : Bool} → r ≡ common_in c a (at + n) b (beside + n) 16 → not r ≡ false → common_in c a at b beside (n + 16) ≡ true
-      block_more e h = common_joined a at b beside n 16 common (sym e ∙ not-false _ h)
+      pub block_more : {r : Bool} → r ≡ common_in c a (at + n) b (beside + n) 16 → r ≡ true → common_in c a at b beside (n + 16) ≡ true
+      block_more e h = common_joined a at b beside n 16 common (sym e ∙ h)
 
-      pub byte_more : {r : Bool} → r ≡ same_in c (byte_at a (at + n)) (byte_at b (beside + n)) → not r ≡ false → common_in c a at b beside (n + 1) ≡ true
-      byte_more {r} e h = sym (common_more a at b beside n (sym common) e) ∙ not-false r h
+      pub byte_more : {r : Bool} → r ≡ same_in c (byte_at a (at + n)) (byte_at b (beside + n)) → r ≡ true → common_in c a at b beside (n + 1) ≡ true
+      byte_more {r} e h = sym (common_more a at b beside n (sym common) e) ∙ h
 
-module _ (c : Class) (f : Form) (a : List ℕ) (at : ℕ) (g : Form) (b : List ℕ) (beside : ℕ) (lefts : Units c f) (rights : Units c g) where
+module _ (c : Class) (f : Form) (a : List ℕ) (at : ℕ) (g : Form) (b : List ℕ) (beside : ℕ) (lefts : Alone c f) (rights : Alone c g) where
   -- the same byte of the class on both sides
   one_onward : (i j : ℕ) → i < length a → j < length b → same_in c (byte_at a i) (byte_at b j) ≡ true
       → Onward (units_from f a i) (units_from g b j) (units_from f a (i + 1)) (units_from g b (j + 1))
@@ -153,47 +150,51 @@ two_differ f a i g b j lefts rights h =
     let q = and_both (is_plain 0x7E (byte_at a i)) (is_plain 0x7E (byte_at b j)) p.0 in
     rw (plain_unit a i q.0 f lefts, plain_unit b j q.1 g rights, not-true (eqb (byte_at a i) (byte_at b j)) p.1)
 
-module _ (f : Form) (a : List ℕ) (at : ℕ) (g : Form) (b : List ℕ) (beside : ℕ) where
-  pub nothing_skipped : Skips f a at g b beside (Past at beside)
+module _ (x y : Units) where
+  pub nothing_skipped : Onward (units x) (units y) (units x) (units y)
   nothing_skipped = record { same = refl; fewer = omega arith }
 
-  module _ {l r : Bool} (lefts : l ≡ is_bytewise f) (rights : r ≡ is_bytewise g) (test : not (l && r) ≡ false) {n : ℕ} (run : Common plain_class a at b beside n) where
-    left_is : is_bytewise f ≡ true
+  module _ {l r : Bool} (lefts : l ≡ is_bytewise x.form) (rights : r ≡ is_bytewise y.form) (test : not (l && r) ≡ false) {n : ℕ} (run : Common plain_class x.bytes.now x.at y.bytes.now y.at n) where
+    left_is : is_bytewise x.form ≡ true
     left_is = sym lefts ∙ (and_both l r (not-false (l && r) test)).0
 
-    right_is : is_bytewise g ≡ true
+    right_is : is_bytewise y.form ≡ true
     right_is = sym rights ∙ (and_both l r (not-false (l && r) test)).1
 
-    pub plain_skipped : Skips f a at g b beside (Past (at + n) (beside + n))
-    plain_skipped =
-        common_onward plain_class f a at g b beside (λ s i k h. plain_unit s i h f left_is) (λ s i k h. plain_unit s i h g right_is) n run.within_left run.within_right run.common
+    skipped : Onward (units x) (units y) (units_from x.form x.bytes.now (x.at + n)) (units_from y.form y.bytes.now (y.at + n))
+    skipped =
+        common_onward plain_class x.form x.bytes.now x.at y.form y.bytes.now y.at (λ s i k h. plain_unit s i h x.form left_is) (λ s i k h. plain_unit s i h y.form right_is) n
+        run.within_left run.within_right run.common
 
-    pub plain_differ : {d : Bool} → d ≡ other_plain (byte_at a (at + n)) (byte_at b (beside + n)) → d ≡ true → Skips f a at g b beside Differ
-    plain_differ e h = sym (plain_skipped.same ∙ two_differ f a (at + n) g b (beside + n) left_is right_is (sym e ∙ h))
+    pub plain_skipped : {us vs : List ℕ} → us ≡ units_from x.form x.bytes.now (x.at + n) → vs ≡ units_from y.form y.bytes.now (y.at + n) → Onward (units x) (units y) us vs
+    plain_skipped e k = rw (e, k) skipped
+
+    pub plain_differ : {d : Bool} → d ≡ other_plain (byte_at x.bytes.now (x.at + n)) (byte_at y.bytes.now (y.at + n)) → d ≡ true → false ≡ same_bytes (units x) (units y)
+    plain_differ e h = sym (skipped.same ∙ two_differ x.form x.bytes.now (x.at + n) y.form y.bytes.now (y.at + n) left_is right_is (sym e ∙ h))
 
 -- the loop over both: plain bytes are skipped, then one unit of each is compared
-module _ (w : Bool) (f : Form) (a : List ℕ) (i : ℕ) (g : Form) (b : List ℕ) (j : ℕ) (inv : w ≡ same_bytes (units_from f a i) (units_from g b j)) (s : Skipped) (es : Skips f a i g b j s) where
-  pub skip_differ : s ≡ Differ → false ≡ w
-  skip_differ p = let d : Skips f a i g b j Differ = rw p at es in d ∙ sym inv
+module _ (w : Bool) (us vs : List ℕ) (inv : w ≡ same_bytes us vs) (s : Option (Units × Units)) (es : Skips us vs s) where
+  pub skip_differ : s ≡ None → false ≡ w
+  skip_differ p = let d : Skips us vs None = rw p at es in d ∙ sym inv
 
-  module _ (x y : ℕ) (p : s ≡ Past x y) (r : Pair) (er : Pairs f a x g b y r) where
-    onward : w ≡ same_bytes (units_from f a x) (units_from g b y)
-    onward = let o : Skips f a i g b j (Past x y) = rw p at es in inv ∙ o.same
+  module _ (x y : Units) (p : s ≡ Some (x, y)) (r : Pair) (er : Pairs (units x) (units y) r) where
+    onward : w ≡ same_bytes (units x) (units y)
+    onward = let o : Skips us vs (Some (x, y)) = rw p at es in inv ∙ o.same
 
-    pub pair_differ : r ≡ pair.Differ → false ≡ w
-    pair_differ q = let d : Pairs f a x g b y pair.Differ = rw q at er in d ∙ sym onward
+    pub pair_differ : r ≡ Differ → false ≡ w
+    pair_differ q = let d : Pairs (units x) (units y) Differ = rw q at er in d ∙ sym onward
 
-    pub pair_ended : r ≡ pair.Ended → true ≡ w
-    pair_ended q = let d : Pairs f a x g b y pair.Ended = rw q at er in d ∙ sym onward
+    pub pair_ended : r ≡ Ended → true ≡ w
+    pair_ended q = let d : Pairs (units x) (units y) Ended = rw q at er in d ∙ sym onward
 
-    module _ (h : Form) (k : ℕ) (e : Form) (l : ℕ) (q : r ≡ pair.Same h k e l) where
-      after : Pairs f a x g b y (pair.Same h k e l)
+    module _ (h k : Units) (q : r ≡ Same h k) where
+      after : Pairs (units x) (units y) (Same h k)
       after = rw q at er
 
-      pub pair_next : w ≡ same_bytes (units_from h a k) (units_from e b l)
+      pub pair_next : w ≡ same_bytes (units h) (units k)
       pair_next = onward ∙ after.0
 
-      pub pair_fewer : length (units_from h a k) < length (units_from f a i)
+      pub pair_fewer : length (units h) < length us
       pair_fewer =
-          let o : Skips f a i g b j (Past x y) = rw p at es in
+          let o : Skips us vs (Some (x, y)) = rw p at es in
           omega (arith, o.fewer, after.1)

@@ -1,22 +1,20 @@
 -- One law for each exit of `src/read.rt`; a scalar property's value in the environment.
-use Prim.Native.Nat.{ℕ, suc, ◌+◌, ◌-◌}
+use Prim.Native.Nat.{ℕ}
 use mathlib.Core.List.{List}
 use mathlib.Core.Bool.{Bool, true, false}
-use mathlib.Core.Path.{◌≡◌, refl, sym, ◌∙◌}
+use mathlib.Core.Path.{◌≡◌, refl, ◌∙◌}
 use mathlib.Core.Option.{none, some}
-use native.Mathlib.Omega.{arith}
+use mathlib.Core.Logic.{◌⊎◌, inl, inr}
 use lib.Dec.{eqb}
 use borrow.Author.Tests.{ne_eqb}
 use Rattle.base.specs.Pick.{pick}
 use Rattle.base.specs.Part.{part}
-use Rattle.record.specs.Record.{record_at, records}
+use Rattle.record.specs.Record.{record_at}
 use Rattle.record.specs.Kind.{kind_of}
 use Rattle.record.specs.declared.read.RecordAt.{RecordAt}
 use Rattle.record.specs.declared.read.RecordAt.TheVariants.{Whole, Broken, End}
 use Rattle.record.specs.declared.kind.Kind.TheVariants.{Scalar}
 use Rattle.record.specs.declared.kind.ValueType.{ValueType}
-use Rattle.record.proofs.Records.{records_whole, records_broken, records_end}
-use Rattle.instance.specs.Conforms.{count}
 use Rattle.instance.specs.Value.{ScalarValue, scalar_in, element_in, value_at}
 use Rattle.value.specs.declared.item.Item.{Item}
 use Rattle.value.specs.declared.item.Item.TheVariants as it
@@ -38,27 +36,10 @@ module _ (i : List ℕ) (place : ℕ) (of : ValueType) (r : RecordAt) (er : r �
   unfolding value_in_record
   record_value kind start len next e x f = rw (← er, e) f
 
-  pub record_broken : r ≡ Broken → item_value i it.Null ≡ value_in_record of i place
+  pub record_missing : (r ≡ Broken) ⊎ (r ≡ End) → item_value i it.Null ≡ value_in_record of i place
   unfolding value_in_record item_value
-  record_broken e = rw (← er, e)
-
-  pub record_missing : r ≡ End → item_value i it.Null ≡ value_in_record of i place
-  unfolding value_in_record item_value
-  record_missing e = rw (← er, e)
-
--- counting
-module _ (s : List ℕ) (w at n : ℕ) (inv : w ≡ n + count (records s at)) (r : RecordAt) (er : r ≡ record_at s at) where
-  pub count_next : (kind start len next : ℕ) → r ≡ Whole kind start len next → w ≡ n + 1 + count (records s next)
-  unfolding count
-  count_next kind start len next e = let g : w ≡ n + suc (count (records s next)) = inv ∙ rw (records_whole s at kind start len next (sym er ∙ e)) in omega arith
-
-  pub count_broken : r ≡ Broken → n ≡ w
-  unfolding count
-  count_broken e = let g : w ≡ n + 0 = inv ∙ rw (records_broken s at (sym er ∙ e)) in omega arith
-
-  pub count_end : r ≡ End → n ≡ w
-  unfolding count
-  count_end e = let g : w ≡ n + 0 = inv ∙ rw (records_end s at (sym er ∙ e)) in omega arith
+  record_missing (inl e) = rw (← er, e)
+  record_missing (inr e) = rw (← er, e)
 
 -- the value of a scalar property is that of its record
 pub scalar_property : (asked : ℕ) (i : List ℕ) (place : ℕ) (t : ValueType) → kind_of asked ≡ Scalar t → value_at asked i place ≡ as_value (value_in_record t i place)

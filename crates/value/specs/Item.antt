@@ -1,27 +1,16 @@
 -- A value as the code holds it, over the slice that it came from. Of text, octets and references it holds where they stand.
-use Rattle.std.specs.Prelude.{ℕ, List, Bool, true, false, ◌≡◌, eqb}
+use Rattle.std.specs.Prelude.{ℕ, List, Bool, true, false}
 use Rattle.std.proofs.Math.Option.{Option, none, some}
 use Rattle.base.specs.Part.{part}
-use Rattle.base.specs.LittleEndian.{whole_of}
-use Rattle.base.specs.declared.order.Order.{Order}
 use Rattle.instance.specs.Value as value
 use Rattle.instance.specs.Value.{ScalarValue}
 use Rattle.value.specs.Unit.{units_from}
-use Rattle.value.specs.Compare.{order_of}
 use Rattle.value.specs.declared.unit.Form.{Form}
 use Rattle.value.specs.declared.item.Sort.{Sort}
 use Rattle.value.specs.declared.item.Sort.TheVariants.{Text, Octets, Reference}
 use Rattle.value.specs.declared.item.Sequence as sequence
 use Rattle.value.specs.declared.item.Item.{Item}
 use Rattle.value.specs.declared.item.Item.TheVariants.{Null, Truth, Integer, Real, Datetime, Sequence}
-
-abbrev pub sort_number : Sort → ℕ
-sort_number Text = 0
-sort_number Octets = 1
-sort_number Reference = 2
-
-abbrev pub same_sort : Sort → Sort → Bool
-same_sort a b = eqb (sort_number a) (sort_number b)
 
 -- the value of a sort that units make
 unfoldable pub listed : Sort → List ℕ → ScalarValue
@@ -36,7 +25,7 @@ sequence_value s q = listed q.sort (units_from q.form (part s q.start q.length) 
 unfoldable pub item_value : List ℕ → Item → Option ScalarValue
 item_value s Null = none
 item_value s (Truth b) = some (value.truth b)
-item_value s (Integer n) = some (value.whole (whole_of n))
+item_value s (Integer n) = some (value.whole n)
 item_value s (Real x) = some (value.real x)
 item_value s (Datetime d) = some (value.datetime d)
 item_value s (Sequence q) = some (sequence_value s q)
@@ -52,7 +41,3 @@ is_null_item (Integer n) = false
 is_null_item (Real x) = false
 is_null_item (Datetime d) = false
 is_null_item (Sequence q) = false
-
--- how a value stands to an item's, over any slice
-abbrev pub Against : ScalarValue → Item → Order → Type 0
-Against x y r = (s : List ℕ) → r ≡ order_of (some x) (item_value s y)

@@ -1,15 +1,14 @@
 -- Bytes that two sequences have in common, by their class: plain ones, which are units of their own in several forms, and those that characters have. What they say of the units from two places on.
-use Rattle.std.specs.Prelude.{ℕ, zero, suc, ◌+◌, ◌-◌, ◌≤◌, ◌<◌, Bool, true, false, not, ◌&&◌, ◌||◌, List, ◌≡◌, length, eqb}
+use Rattle.std.specs.Prelude.{ℕ, zero, suc, ◌+◌, ◌-◌, ◌≤◌, ◌<◌, Bool, true, false, not, ◌&&◌, ◌||◌, List, ◌≡◌, length, eqb, Option, Some, None}
 use Rattle.base.specs.Part.{byte_at, same_bytes}
 use Rattle.base.specs.Range.{within}
-use Rattle.value.specs.Unit.{units_from}
+use Rattle.value.specs.Unit.{units_from, units}
 use Rattle.value.specs.declared.unit.Form.{Form}
 use Rattle.value.specs.declared.unit.Form.TheVariants.{Bytes, Utf8, Char16, Hex, Quoted, Encoded}
+use Rattle.value.specs.declared.unit.Units.{Units}
 use Rattle.value.specs.declared.class.Class.{Class}
-use Rattle.value.specs.declared.plain.Skipped.{Skipped}
-use Rattle.value.specs.declared.plain.Skipped.TheVariants.{Differ, Past}
 use Rattle.value.specs.declared.same.Pair.{Pair}
-use Rattle.value.specs.declared.same.Pair.TheVariants as pair
+use Rattle.value.specs.declared.same.Pair.TheVariants.{Same, Differ, Ended}
 
 -- from the blank to `high`, without the quote and the backslash, which a string literal takes for its own
 unfoldable pub is_plain : (high : ℕ) → ℕ → Bool
@@ -78,17 +77,16 @@ pub record Onward (us vs us' vs' : List ℕ) : Type 0 where
   pub fewer : length us' ≤ length us
 
 -- they are so from `n` bytes further on
-pub record Along (f : Form) (a : List ℕ) (i : ℕ) (g : Form) (b : List ℕ) (j n : ℕ) : Type 0 where
-  pub within_left : n ≤ length a - i
-  pub within_right : n ≤ length b - j
-  pub onward : Onward (units_from f a i) (units_from g b j) (units_from f a (i + n)) (units_from g b (j + n))
+pub record Along (x y : Units) (n : ℕ) : Type 0 where
+  pub within_left : n ≤ length x.bytes.now - x.at
+  pub within_right : n ≤ length y.bytes.now - y.at
+  pub onward : Onward (units x) (units y) (units_from x.form x.bytes.now (x.at + n)) (units_from y.form y.bytes.now (y.at + n))
 
-abbrev pub Skips : Form → List ℕ → ℕ → Form → List ℕ → ℕ → Skipped → Type 0
-Skips f a i g b j Differ = false ≡ same_bytes (units_from f a i) (units_from g b j)
-Skips f a i g b j (Past k l) = Onward (units_from f a i) (units_from g b j) (units_from f a k) (units_from g b l)
+abbrev pub Skips : (us vs : List ℕ) → Option (Units × Units) → Type 0
+Skips us vs None = false ≡ same_bytes us vs
+Skips us vs (Some (x, y)) = Onward us vs (units x) (units y)
 
-abbrev pub Pairs : Form → List ℕ → ℕ → Form → List ℕ → ℕ → Pair → Type 0
-Pairs f a i g b j (pair.Same h k e l) =
-    (same_bytes (units_from f a i) (units_from g b j) ≡ same_bytes (units_from h a k) (units_from e b l)) × (length (units_from h a k) < length (units_from f a i))
-Pairs f a i g b j pair.Differ = false ≡ same_bytes (units_from f a i) (units_from g b j)
-Pairs f a i g b j pair.Ended = true ≡ same_bytes (units_from f a i) (units_from g b j)
+abbrev pub Pairs : (us vs : List ℕ) → Pair → Type 0
+Pairs us vs (Same x y) = (same_bytes us vs ≡ same_bytes (units x) (units y)) × (length (units x) < length us)
+Pairs us vs Differ = false ≡ same_bytes us vs
+Pairs us vs Ended = true ≡ same_bytes us vs

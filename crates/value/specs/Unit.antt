@@ -1,5 +1,5 @@
 -- Text, octets and references as sequences of units: a text's characters, or bytes. A form says how the units stand in a slice.
-use Rattle.std.specs.Prelude.{ℕ, ◌+◌, ◌*◌, List, [], ◌∷◌, ◌++◌, length, drop, eqb, ltb, ◌≡◌}
+use Rattle.std.specs.Prelude.{ℕ, ◌+◌, ◌*◌, List, [], ◌∷◌, ◌++◌, length, drop, eqb, ltb, ◌≡◌, Option, Some, None}
 use Rattle.base.specs.Pick.{pick}
 use Rattle.base.specs.Digit.{digit_of}
 use Rattle.record.specs.Record.{number_at}
@@ -8,8 +8,7 @@ use Rattle.encoding.specs.Scalar.{encode}
 use Rattle.string_literal.specs.Text.{text_at, characters_of, bytes_of}
 use Rattle.value.specs.declared.unit.Form.{Form}
 use Rattle.value.specs.declared.unit.Form.TheVariants.{Bytes, Utf8, Char16, Hex, Quoted, Encoded}
-use Rattle.value.specs.declared.unit.Next.{Next}
-use Rattle.value.specs.declared.unit.Next.TheVariants.{Unit, End}
+use Rattle.value.specs.declared.unit.Units.{Units}
 
 -- a byte for each pair of hex digits
 unfoldable pub hex_pairs : List ℕ → List ℕ
@@ -31,7 +30,10 @@ units_from Hex s at = hex_pairs (drop at s)
 units_from Quoted s at = characters_of (text_at s at)
 units_from (Encoded skipped) s at = utf8_after skipped (characters_of (text_at s at))
 
--- what stands at a place: the first unit, and the place and form of those after it; or that there are no more
-abbrev pub Steps : Form → List ℕ → ℕ → Next → Type 0
-Steps form s at (Unit value rest next) = units_from form s at ≡ value ∷ units_from rest s next
-Steps form s at End = units_from form s at ≡ []
+abbrev pub units : Units → List ℕ
+units u = units_from u.form u.bytes.now u.at
+
+-- the first of some units and those after it; or that there are none
+abbrev pub Steps : List ℕ → Option (ℕ × Units) → Type 0
+Steps us (Some (v, rest)) = us ≡ v ∷ units rest
+Steps us None = us ≡ []

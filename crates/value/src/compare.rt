@@ -1,18 +1,18 @@
 // How two values stand to each other, and whether a comparison operator holds of them.
 ghost use Rattle.std.specs.Prelude.{◌≡◌, not};
 ghost use Rattle.base.specs.Pick.{pick};
-ghost use Rattle.base.specs.LittleEndian.{whole_of};
-ghost use Rattle.instance.specs.Value as value;
+ghost use Rattle.base.specs.Part.{part};
 ghost use Rattle.value.specs.Compare as Compare;
 ghost use Rattle.value.specs.Compare.{order_of_scalars, order_of, null_holds, compares};
-ghost use Rattle.value.specs.Item.{sequence_value, item_value, Against};
+ghost use Rattle.value.specs.Item.{sequence_value, item_value};
+ghost use Rattle.value.specs.Unit.{units_from, units};
 
-use crate::item::{Item, Sequence, is_null, same_sort};
+use crate::item::{Item, Sequence, is_null};
 use crate::same::same_units;
+use crate::unit::Units;
 use base::bytes::piece;
-use base::integer::{Whole, order_of_whole};
+use base::integer::order_of_whole;
 use base::order::{Operator, Order, holds_for};
-use datetime::Datetime;
 use datetime::order::order_of_datetimes;
 use real::order::order_of_reals;
 
@@ -31,97 +31,38 @@ fn order_of_truths(a: bool, b: bool) -> Order
     equality(!b)
 }
 
-fn order_with_truth(m: bool, y: Item) -> Order
-    ensures { Against (value.truth m) y result }
+// The units of a sequence that stands in a slice.
+fn units_in<'a>(s: &'a [u8], q: Sequence) -> Units<'a>
+    ensures { units result ≡ units_from q.form (part s.now q.start q.length) q.at }
 {
-    match y {
-        Item::Null => Order::Undecided,
-        Item::Truth(n) => order_of_truths(m, n),
-        Item::Integer(_) => Order::Undecided,
-        Item::Real(_) => Order::Undecided,
-        Item::Datetime(_) => Order::Undecided,
-        Item::Sequence(_) => Order::Undecided,
+    Units {
+        form: q.form,
+        bytes: piece(s, q.start, q.length),
+        at: q.at,
     }
 }
 
-fn order_with_whole(m: Whole, y: Item) -> Order
-    ensures { Against (value.whole (whole_of m)) y result }
-{
-    match y {
-        Item::Null => Order::Undecided,
-        Item::Truth(_) => Order::Undecided,
-        Item::Integer(n) => order_of_whole(m, n),
-        Item::Real(_) => Order::Undecided,
-        Item::Datetime(_) => Order::Undecided,
-        Item::Sequence(_) => Order::Undecided,
-    }
-}
-
-fn order_with_real(m: f64, y: Item) -> Order
-    ensures { Against (value.real m) y result }
-{
-    match y {
-        Item::Null => Order::Undecided,
-        Item::Truth(_) => Order::Undecided,
-        Item::Integer(_) => Order::Undecided,
-        Item::Real(n) => order_of_reals(m, n),
-        Item::Datetime(_) => Order::Undecided,
-        Item::Sequence(_) => Order::Undecided,
-    }
-}
-
-fn order_with_datetime(m: Datetime, y: Item) -> Order
-    ensures { Against (value.datetime m) y result }
-{
-    match y {
-        Item::Null => Order::Undecided,
-        Item::Truth(_) => Order::Undecided,
-        Item::Integer(_) => Order::Undecided,
-        Item::Real(_) => Order::Undecided,
-        Item::Datetime(n) => order_of_datetimes(m, n),
-        Item::Sequence(_) => Order::Undecided,
-    }
-}
-
+#[tactic(auto, using(crate::proofs::Ordering::sorts_differ, crate::proofs::Ordering::sorts_agree))]
 fn order_of_sequences<'a>(a: &'a [u8], x: Sequence, b: &'a [u8], y: Sequence) -> Order
     ensures { result ≡ order_of_scalars (sequence_value a.now x) (sequence_value b.now y) }
 {
-    let m = x.sort;
-    let n = y.sort;
-    if !same_sort(m, n) {
+    if x.sort != y.sort {
         return Order::Undecided;
     }
-    let f = x.form;
-    let g = y.form;
-    let left = piece(a, x.start, x.length);
-    let right = piece(b, y.start, y.length);
-    equality(same_units(f, left, x.at, g, right, y.at))
-}
-
-fn order_with_sequence<'a>(a: &'a [u8], x: Sequence, b: &'a [u8], y: Item) -> Order
-    ensures { result ≡ order_of (item_value a.now (Item.Sequence x)) (item_value b.now y) }
-{
-    match y {
-        Item::Null => Order::Undecided,
-        Item::Truth(_) => Order::Undecided,
-        Item::Integer(_) => Order::Undecided,
-        Item::Real(_) => Order::Undecided,
-        Item::Datetime(_) => Order::Undecided,
-        Item::Sequence(z) => order_of_sequences(a, x, b, z),
-    }
+    equality(same_units(units_in(a, x), units_in(b, y)))
 }
 
 // How the value of `x`, from the slice `a`, stands to that of `y`, from `b`; a NULL is in order with nothing.
 pub fn order_of_items<'a>(a: &'a [u8], x: Item, b: &'a [u8], y: Item) -> Order
     ensures { result ≡ order_of (item_value a.now x) (item_value b.now y) }
 {
-    match x {
-        Item::Null => Order::Undecided,
-        Item::Truth(m) => order_with_truth(m, y),
-        Item::Integer(m) => order_with_whole(m, y),
-        Item::Real(m) => order_with_real(m, y),
-        Item::Datetime(m) => order_with_datetime(m, y),
-        Item::Sequence(m) => order_with_sequence(a, m, b, y),
+    match (x, y) {
+        (Item::Truth(m), Item::Truth(n)) => order_of_truths(m, n),
+        (Item::Integer(m), Item::Integer(n)) => order_of_whole(m, n),
+        (Item::Real(m), Item::Real(n)) => order_of_reals(m, n),
+        (Item::Datetime(m), Item::Datetime(n)) => order_of_datetimes(m, n),
+        (Item::Sequence(m), Item::Sequence(n)) => order_of_sequences(a, m, b, n),
+        _ => Order::Undecided,
     }
 }
 
@@ -132,14 +73,12 @@ fn null_holds(op: Operator, both: bool) -> bool
     match op {
         Operator::Equal => both,
         Operator::Unequal => !both,
-        Operator::Less => false,
-        Operator::AtMost => false,
-        Operator::Greater => false,
-        Operator::AtLeast => false,
+        _ => false,
     }
 }
 
 // Whether the operator holds of the value of `x`, from the slice `a`, and that of `y`, from `b`.
+#[tactic(auto, using(crate::proofs::Ordering::left_null, crate::proofs::Ordering::right_null, crate::proofs::Ordering::no_null))]
 pub fn compare_items<'a>(op: Operator, a: &'a [u8], x: Item, b: &'a [u8], y: Item) -> bool
     ensures { result ≡ compares op (item_value a.now x) (item_value b.now y) }
 {

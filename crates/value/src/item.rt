@@ -1,12 +1,11 @@
 // Values as they are compared.
 ghost use Rattle.std.specs.Prelude.{◌≡◌};
-ghost use Rattle.value.specs.Item.{sort_number, same_sort, is_null_item};
+ghost use Rattle.value.specs.Item.{is_null_item};
 
 use crate::unit::Form;
-use base::integer::Whole;
 use datetime::Datetime;
 
-#[derive(Clone, Copy)]
+#[derive(Clone, Copy, PartialEq, Eq)]
 pub enum Sort {
     Text,
     Octets,
@@ -27,37 +26,14 @@ pub struct Sequence {
 pub enum Item {
     Null,
     Truth(bool),
-    Integer(Whole),
+    Integer(i128),
     Real(f64),
     Datetime(Datetime),
     Sequence(Sequence),
 }
 
-fn sort_number(sort: Sort) -> u8
-    ensures { result ≡ sort_number sort }
-{
-    match sort {
-        Sort::Text => 0,
-        Sort::Octets => 1,
-        Sort::Reference => 2,
-    }
-}
-
-pub fn same_sort(a: Sort, b: Sort) -> bool
-    ensures { result ≡ same_sort a b }
-{
-    sort_number(a) == sort_number(b)
-}
-
 pub fn is_null(x: Item) -> bool
     ensures { result ≡ is_null_item x }
 {
-    match x {
-        Item::Null => true,
-        Item::Truth(_) => false,
-        Item::Integer(_) => false,
-        Item::Real(_) => false,
-        Item::Datetime(_) => false,
-        Item::Sequence(_) => false,
-    }
+    matches!(x, Item::Null)
 }

@@ -2,7 +2,6 @@
 ghost use Rattle.std.specs.Prelude.{◌≡◌};
 ghost use Rattle.std.proofs.Math.Option.{some};
 ghost use Rattle.base.specs.Part.{part};
-ghost use Rattle.base.specs.LittleEndian.{whole_of};
 ghost use Rattle.record.specs.Record.{records};
 ghost use Rattle.instance.specs.Value.{whole_in, real_in, family_value, element_in};
 ghost use Rattle.instance.specs.Conforms.{count};
@@ -12,19 +11,20 @@ ghost use Rattle.value.specs.Read.{value_in_record};
 use crate::item::{Item, Sequence, Sort};
 use crate::unit::Form;
 use base::bytes::{byte_at, piece};
-use base::integer::{Whole, signed_in, unsigned_in};
+use base::integer::{signed_in, unsigned_in};
 use datetime::read::read_datetime;
 use real::bits::{real32_in, real64_in};
 use record::kind::{Family, ValueType};
 use record::read::{RecordAt, record_at};
+use record::walk::records_from;
 
-fn read_whole(signed: bool, s: &[u8]) -> Whole
-    ensures { whole_of result ≡ whole_in signed s.now }
+fn read_whole(signed: bool, s: &[u8]) -> i128
+    ensures { result ≡ whole_in signed s.now }
 {
     if signed {
         return signed_in(s);
     }
-    Whole::Pos(unsigned_in(s))
+    i128::from(unsigned_in(s))
 }
 
 fn read_real(width: usize, s: &[u8]) -> f64
@@ -72,17 +72,18 @@ fn read_family(
 }
 
 // The value of a type in a record of this kind whose body is the `length` bytes at `start`; kind 0 is NULL.
+#[tactic(auto, using(crate::proofs::Reading::item_null, crate::proofs::Reading::item_some))]
 pub fn read_item(s: &[u8], of: ValueType, kind: usize, start: usize, length: usize) -> Item
     ensures { item_value s.now result ≡ element_in of kind (part s.now start length) }
 {
     if kind == 0 {
         return Item::Null;
     }
-    let family = of.family;
-    read_family(s, family, of.width, of.signed, start, length)
+    read_family(s, of.family, of.width, of.signed, start, length)
 }
 
 // The value of a type in the record at a place; NULL where no whole record is there.
+#[tactic(auto, using(crate::proofs::Reading::record_value, crate::proofs::Reading::record_missing))]
 pub fn item_at(i: &[u8], place: usize, of: ValueType) -> Item
     ensures { item_value i.now result ≡ value_in_record of i.now place }
 {
@@ -91,32 +92,23 @@ pub fn item_at(i: &[u8], place: usize, of: ValueType) -> Item
             kind,
             start,
             length,
-            next: _,
+            ..
         } => read_item(i, of, kind, start, length),
-        RecordAt::Broken => Item::Null,
-        RecordAt::End => Item::Null,
+        RecordAt::Broken | RecordAt::End => Item::Null,
     }
 }
 
 // How many elements an array's body has.
+#[tactic(auto, unfolding(instance::specs::Conforms::count))]
 pub fn count_elements(s: &[u8]) -> usize
     ensures { result ≡ count (records s.now 0) }
 {
-    let mut at: usize = 0;
     let mut n: usize = 0;
-    loop {
-        match record_at(s, at) {
-            RecordAt::Whole {
-                kind: _,
-                start: _,
-                length: _,
-                next,
-            } => {
-                at = next;
-                n += 1;
-            }
-            RecordAt::Broken => return n,
-            RecordAt::End => return n,
+    for record in records_from(s, 0) {
+        match record {
+            Ok(_) => n += 1,
+            Err(_) => return n,
         }
     }
+    n
 }

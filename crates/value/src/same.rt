@@ -1,62 +1,54 @@
 // Whether two sequences of units are the same.
 ghost use Rattle.std.specs.Prelude.{◌≡◌};
 ghost use Rattle.base.specs.Part.{same_bytes};
-ghost use Rattle.value.specs.Unit.{units_from};
+ghost use Rattle.value.specs.Unit.{units};
 ghost use Rattle.value.specs.Plain.{Pairs};
 
-use crate::plain::Skipped;
 use crate::skip::skip_common;
-use crate::unit::{Form, Next, next_unit};
+use crate::unit::Units;
 
-// The next units of two sequences: the same one, with the form and the place of those after it in each; two that differ, or one beside none; none on either side.
+// The next units of two sequences: the same one, with what follows it in each; two that differ, or one beside none; none on either side.
 #[derive(Drop)]
-pub enum Pair {
-    Same(Form, usize, Form, usize),
+pub enum Pair<'a> {
+    Same(Units<'a>, Units<'a>),
     Differ,
     Ended,
 }
 
-fn next_units<'a>(f: Form, a: &'a [u8], at: usize, g: Form, b: &'a [u8], beside: usize) -> Pair
-    ensures { Pairs f a.now at g b.now beside result }
+#[inline(always)]
+fn next_units<'a>(x: Units<'a>, y: Units<'a>) -> Pair<'a>
+    ensures { Pairs (units x.entry) (units y.entry) result }
 {
-    match next_unit(f, a, at) {
-        Next::Unit(x, form, place) => match next_unit(g, b, beside) {
-            Next::Unit(y, other, then) => {
-                if x != y {
-                    return Pair::Differ;
-                }
-                Pair::Same(form, place, other, then)
+    match (x.next(), y.next()) {
+        (Some((m, left)), Some((n, right))) => {
+            if m != n {
+                return Pair::Differ;
             }
-            Next::End => Pair::Differ,
-        },
-        Next::End => match next_unit(g, b, beside) {
-            Next::Unit(_, _, _) => Pair::Differ,
-            Next::End => Pair::Ended,
-        },
+            Pair::Same(left, right)
+        }
+        (None, None) => Pair::Ended,
+        _ => Pair::Differ,
     }
 }
 
-// Whether the units from two places on are the same, one after the other, and equally many.
-pub fn same_units<'a>(f: Form, a: &'a [u8], i: usize, g: Form, b: &'a [u8], j: usize) -> bool
-    ensures { result ≡ same_bytes (units_from f a.now i) (units_from g b.now j) }
+// Whether the units of both are the same, one after the other, and equally many.
+#[tactic(auto, using(crate::proofs::PlainUnits::skip_differ, crate::proofs::PlainUnits::pair_fewer, crate::proofs::PlainUnits::pair_next, crate::proofs::PlainUnits::pair_differ, crate::proofs::PlainUnits::pair_ended))]
+pub fn same_units<'a>(x: Units<'a>, y: Units<'a>) -> bool
+    ensures { result ≡ same_bytes (units x.entry) (units y.entry) }
 {
-    let mut left = f;
-    let mut at = i;
-    let mut right = g;
-    let mut beside = j;
+    let mut left = x;
+    let mut right = y;
     loop {
-        match skip_common(left, a, at, right, b, beside) {
-            Skipped::Differ => return false,
-            Skipped::Past(first, second) => match next_units(left, a, first, right, b, second) {
-                Pair::Same(form, place, other, then) => {
-                    left = form;
-                    at = place;
-                    right = other;
-                    beside = then;
-                }
-                Pair::Differ => return false,
-                Pair::Ended => return true,
-            },
+        let Some((first, second)) = skip_common(left, right) else {
+            return false;
+        };
+        match next_units(first, second) {
+            Pair::Same(m, n) => {
+                left = m;
+                right = n;
+            }
+            Pair::Differ => return false,
+            Pair::Ended => return true,
         }
     }
 }

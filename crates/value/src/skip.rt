@@ -1,10 +1,11 @@
 // What two sequences have in common is skipped: plain bytes, and whole characters beyond ASCII.
 ghost use Rattle.std.specs.Prelude.{◌≡◌};
+ghost use Rattle.value.specs.Unit.{units};
 ghost use Rattle.value.specs.Plain.{is_bytes, is_utf8, is_characters, Along, Skips};
 
-use crate::class::{Class, class_run, same_in};
-use crate::plain::{Skipped, skip_plain};
-use crate::unit::Form;
+use crate::class::{Class, common_run, same_in};
+use crate::plain::skip_plain;
+use crate::unit::{Form, Units};
 use base::bytes::byte_at;
 use encoding::text::pass_text;
 
@@ -14,100 +15,64 @@ const HIGH: u8 = 0xee;
 fn is_bytes(form: Form) -> bool
     ensures { result ≡ is_bytes form }
 {
-    match form {
-        Form::Bytes => true,
-        Form::Utf8 => false,
-        Form::Char16 => false,
-        Form::Hex => false,
-        Form::Quoted => false,
-        Form::Encoded(_) => false,
-    }
+    matches!(form, Form::Bytes)
 }
 
 fn is_utf8(form: Form) -> bool
     ensures { result ≡ is_utf8 form }
 {
-    match form {
-        Form::Bytes => false,
-        Form::Utf8 => true,
-        Form::Char16 => false,
-        Form::Hex => false,
-        Form::Quoted => false,
-        Form::Encoded(_) => false,
-    }
+    matches!(form, Form::Utf8)
 }
 
 fn is_characters(form: Form) -> bool
     ensures { result ≡ is_characters form }
 {
-    match form {
-        Form::Bytes => false,
-        Form::Utf8 => true,
-        Form::Char16 => false,
-        Form::Hex => false,
-        Form::Quoted => true,
-        Form::Encoded(_) => false,
-    }
+    matches!(form, Form::Utf8 | Form::Quoted)
 }
 
-// How many bytes of whole characters both have from two places on at which a character beyond ASCII stands: of their common bytes those that the walk over the first text's sequences passes.
-fn skip_characters<'a>(
-    f: Form,
-    a: &'a [u8],
-    at: usize,
-    g: Form,
-    b: &'a [u8],
-    beside: usize,
-) -> usize
-    ensures { Along f a.now at g b.now beside result }
+// How many bytes of whole characters both have at whose places a character beyond ASCII stands: of their common bytes those that the walk over the first text's sequences passes.
+#[tactic(auto, using(crate::proofs::CharacterUnits::no_characters, crate::proofs::CharacterUnits::characters_skipped))]
+fn skip_characters<'a>(x: Units<'a>, y: Units<'a>) -> usize
+    ensures { Along x.entry y.entry result }
 {
-    let x = byte_at(a, at);
-    if x < 0x80 {
+    let first = byte_at(x.bytes, x.at);
+    if first < 0x80 {
         return 0;
     }
-    if !(is_characters(f) & is_characters(g)) {
+    if !(is_characters(x.form) & is_characters(y.form)) {
         return 0;
     }
     let class = Class {
-        any: is_utf8(f) & is_utf8(g),
+        any: is_utf8(x.form) & is_utf8(y.form),
         high: HIGH,
     };
-    if !same_in(class, x, byte_at(b, beside)) {
+    if !same_in(class, first, byte_at(y.bytes, y.at)) {
         return 0;
     }
-    let n = class_run(class, a, at, b, beside);
-    pass_text(a, at, at + n) - at
+    let n = common_run(class, x.bytes, x.at, y.bytes, y.at);
+    pass_text(x.bytes, x.at, x.at + n) - x.at
 }
 
-// How many bytes may be skipped from two places on: any that both have where both are bytes.
-fn skip_alike<'a>(f: Form, a: &'a [u8], at: usize, g: Form, b: &'a [u8], beside: usize) -> usize
-    ensures { Along f a.now at g b.now beside result }
+// How many bytes may be skipped of both: any that both have where both are bytes.
+#[inline(always)]
+fn skip_alike<'a>(x: Units<'a>, y: Units<'a>) -> usize
+    ensures { Along x.entry y.entry result }
 {
-    if is_bytes(f) & is_bytes(g) {
+    if is_bytes(x.form) & is_bytes(y.form) {
         let class = Class {
             any: true,
             high: HIGH,
         };
-        return class_run(class, a, at, b, beside);
+        return common_run(class, x.bytes, x.at, y.bytes, y.at);
     }
-    skip_characters(f, a, at, g, b, beside)
+    skip_characters(x, y)
 }
 
-pub fn skip_common<'a>(
-    f: Form,
-    a: &'a [u8],
-    at: usize,
-    g: Form,
-    b: &'a [u8],
-    beside: usize,
-) -> Skipped
-    ensures { Skips f a.now at g b.now beside result }
+#[inline(always)]
+pub fn skip_common<'a>(x: Units<'a>, y: Units<'a>) -> Option<(Units<'a>, Units<'a>)>
+    ensures { Skips (units x.entry) (units y.entry) result }
 {
-    match skip_plain(f, a, at, g, b, beside) {
-        Skipped::Differ => Skipped::Differ,
-        Skipped::Past(first, second) => {
-            let n = skip_alike(f, a, first, g, b, second);
-            Skipped::Past(first + n, second + n)
-        }
-    }
+    let (left, right) = skip_plain(x, y)?;
+    let n = skip_alike(left, right);
+    Some((left.after(n), right.after(n)))
 }

@@ -1,9 +1,9 @@
 // Text, octets and references, unit by unit: a text's characters, or bytes.
-ghost use Rattle.std.specs.Prelude.{◌≡◌, ◌≤◌, ◌<◌, length, get_or};
+ghost use Rattle.std.specs.Prelude.{◌≡◌, ◌+◌, ◌-◌, ◌≤◌, ◌<◌, length, get_or};
 ghost use Rattle.encoding.specs.Scalar.{two_bytes, three_bytes, four_bytes, encode};
-ghost use Rattle.value.specs.Unit.{units_from, Steps};
+ghost use Rattle.value.specs.Unit.{units_from, units, Steps};
 
-use base::bytes::{piece, widen};
+use base::bytes::piece;
 use base::digit::digit_of;
 use encoding::scalar::scalar_of;
 use encoding::sequence::sequence_at;
@@ -22,63 +22,118 @@ pub enum Form {
     Encoded(usize),
 }
 
-// A unit, with the form and the place of those after it; or that there are no more.
-#[derive(Drop)]
-pub enum Next {
-    Unit(u64, Form, usize),
-    End,
+// The units of a slice from a place on. What takes and gives these in the loop over two texts is inlined, so that they stay in registers.
+#[derive(Clone, Copy)]
+pub struct Units<'a> {
+    pub form: Form,
+    pub bytes: &'a [u8],
+    pub at: usize,
 }
 
-fn next_byte(s: &[u8], at: usize) -> Next
-    ensures { Steps Form.Bytes s.now at result }
-{
-    if at < s.len() {
-        return Next::Unit(widen(s[at]), Form::Bytes, at + 1);
+impl<'a> Units<'a> {
+    // The first unit, and those after it; none where there are no more.
+    #[inline(always)]
+    pub fn next(self) -> Option<(u64, Units<'a>)>
+        ensures { Steps (units self.entry) result }
+    {
+        let Units { form, bytes, at } = self;
+        match form {
+            Form::Bytes => next_byte(bytes, at),
+            Form::Utf8 => next_character(bytes, at),
+            Form::Char16 => next_char16(bytes, at),
+            Form::Hex => next_pair(bytes, at),
+            Form::Quoted => next_quoted(bytes, at),
+            Form::Encoded(skipped) => next_encoded(bytes, at, skipped),
+        }
     }
-    Next::End
+
+    // The same slice and form from `n` bytes further on.
+    #[inline(always)]
+    pub fn after(self, n: usize) -> Units<'a>
+        requires { n ≤ length self.bytes.now - self.at }
+        ensures { units result ≡ units_from self.entry.form self.entry.bytes.now (self.entry.at + n) }
+    {
+        Units {
+            at: self.at + n,
+            ..self
+        }
+    }
 }
 
-fn next_character(s: &[u8], at: usize) -> Next
-    ensures { Steps Form.Utf8 s.now at result }
+#[tactic(auto, using(crate::proofs::Laws::byte_end, crate::proofs::Laws::byte_next))]
+#[inline(always)]
+fn next_byte<'a>(bytes: &'a [u8], at: usize) -> Option<(u64, Units<'a>)>
+    ensures { Steps (units_from Form.Bytes bytes.now at) result }
 {
-    let n = sequence_at(s, at);
+    if bytes.len() <= at {
+        return None;
+    }
+    let form = Form::Bytes;
+    let rest = Units {
+        form,
+        bytes,
+        at: at + 1,
+    };
+    Some((u64::from(bytes[at]), rest))
+}
+
+#[inline(always)]
+fn next_character<'a>(bytes: &'a [u8], at: usize) -> Option<(u64, Units<'a>)>
+    ensures { Steps (units_from Form.Utf8 bytes.now at) result }
+{
+    let n = sequence_at(bytes, at);
     if n == 0 {
-        return Next::End;
+        return None;
     }
-    Next::Unit(scalar_of(piece(s, at, n)) as u64, Form::Utf8, at + n)
+    let form = Form::Utf8;
+    let rest = Units {
+        form,
+        bytes,
+        at: at + n,
+    };
+    Some((u64::from(scalar_of(piece(bytes, at, n))), rest))
 }
 
-fn next_char16(s: &[u8], at: usize) -> Next
-    ensures { Steps Form.Char16 s.now at result }
+#[tactic(auto, using(crate::proofs::Laws::char16_end, crate::proofs::Laws::char16_next))]
+fn next_char16<'a>(bytes: &'a [u8], at: usize) -> Option<(u64, Units<'a>)>
+    ensures { Steps (units_from Form.Char16 bytes.now at) result }
 {
-    if at == 0 {
-        return Next::Unit(number_at(s, 0) as u64, Form::Char16, 1);
+    if at != 0 {
+        return None;
     }
-    Next::End
+    let form = Form::Char16;
+    let rest = Units { form, bytes, at: 1 };
+    Some((number_at(bytes, 0) as u64, rest))
 }
 
-fn next_pair(s: &[u8], at: usize) -> Next
-    ensures { Steps Form.Hex s.now at result }
+#[tactic(auto, using(crate::proofs::Laws::pair_end, crate::proofs::Laws::pair_half, crate::proofs::Laws::pair_next))]
+fn next_pair<'a>(bytes: &'a [u8], at: usize) -> Option<(u64, Units<'a>)>
+    ensures { Steps (units_from Form.Hex bytes.now at) result }
 {
-    if s.len() <= at {
-        return Next::End;
+    if bytes.len() <= at {
+        return None;
     }
-    if s.len() - at < 2 {
-        return Next::End;
+    if bytes.len() - at < 2 {
+        return None;
     }
-    let high = digit_of(s[at]);
-    let low = digit_of(s[at + 1]);
-    Next::Unit(high * 16 + low, Form::Hex, at + 2)
+    let form = Form::Hex;
+    let rest = Units {
+        form,
+        bytes,
+        at: at + 2,
+    };
+    Some((digit_of(bytes[at]) * 16 + digit_of(bytes[at + 1]), rest))
 }
 
-fn next_quoted(s: &[u8], at: usize) -> Next
-    ensures { Steps Form.Quoted s.now at result }
+#[inline(always)]
+fn next_quoted<'a>(bytes: &'a [u8], at: usize) -> Option<(u64, Units<'a>)>
+    ensures { Steps (units_from Form.Quoted bytes.now at) result }
 {
-    match char_in_string(s, at) {
-        InString::Character(v, next) => Next::Unit(v as u64, Form::Quoted, next),
-        InString::Close => Next::End,
-        InString::Bad => Next::End,
-    }
+    let InString::Character(c, at) = char_in_string(bytes, at) else {
+        return None;
+    };
+    let form = Form::Quoted;
+    Some((u64::from(c), Units { form, bytes, at }))
 }
 
 // The byte `k` of a sequence of two, three and four (the Unicode Standard, Table 3-6).
@@ -121,6 +176,7 @@ fn byte_of_four(v: u64, k: usize) -> u64
     0x80 + v % 64
 }
 
+#[tactic(auto, using(crate::proofs::Laws::one_length, crate::proofs::Laws::two_length, crate::proofs::Laws::three_length, crate::proofs::Laws::four_length))]
 fn encoded_length(v: u64) -> usize
     ensures { (result ≡ length (encode v)) × (result ≤ 4) }
 {
@@ -153,36 +209,27 @@ fn encoded_byte(v: u64, k: usize) -> u64
     byte_of_four(v, k)
 }
 
-fn next_encoded(s: &[u8], at: usize, skipped: usize) -> Next
-    ensures { Steps (Form.Encoded skipped) s.now at result }
+fn next_encoded<'a>(bytes: &'a [u8], at: usize, skipped: usize) -> Option<(u64, Units<'a>)>
+    ensures { Steps (units_from (Form.Encoded skipped) bytes.now at) result }
 {
-    match char_in_string(s, at) {
-        InString::Character(c, next) => {
-            let v = c as u64;
-            let n = encoded_length(v);
-            if n <= skipped {
-                return Next::End;
-            }
-            let byte = encoded_byte(v, skipped);
-            if skipped + 1 < n {
-                return Next::Unit(byte, Form::Encoded(skipped + 1), at);
-            }
-            Next::Unit(byte, Form::Encoded(0), next)
-        }
-        InString::Close => Next::End,
-        InString::Bad => Next::End,
+    let InString::Character(c, next) = char_in_string(bytes, at) else {
+        return None;
+    };
+    let v = u64::from(c);
+    let n = encoded_length(v);
+    if n <= skipped {
+        return None;
     }
-}
-
-pub fn next_unit(form: Form, s: &[u8], at: usize) -> Next
-    ensures { Steps form s.now at result }
-{
-    match form {
-        Form::Bytes => next_byte(s, at),
-        Form::Utf8 => next_character(s, at),
-        Form::Char16 => next_char16(s, at),
-        Form::Hex => next_pair(s, at),
-        Form::Quoted => next_quoted(s, at),
-        Form::Encoded(skipped) => next_encoded(s, at, skipped),
+    let byte = encoded_byte(v, skipped);
+    if skipped + 1 < n {
+        let form = Form::Encoded(skipped + 1);
+        return Some((byte, Units { form, bytes, at }));
     }
+    let form = Form::Encoded(0);
+    let rest = Units {
+        form,
+        bytes,
+        at: next,
+    };
+    Some((byte, rest))
 }

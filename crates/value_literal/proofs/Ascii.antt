@@ -1,4 +1,5 @@
 -- A datetime's characters are ASCII, and there are 25; one law for each exit of the loop that copies them.
+use Rattle.std.specs.Prelude.{None, Option, Some}
 use Prim.Native.Nat.{ℕ, ◌+◌, ◌-◌, ◌≤◌, ◌<◌}
 use mathlib.Core.List.{List, [], ◌∷◌, ◌++◌, append-nil}
 use mathlib.Core.Bool.{Bool, true, false, ◌||◌}
@@ -27,12 +28,10 @@ use Rattle.datetime.proofs.Filled.{byte_known, byte_after}
 use Rattle.datetime.proofs.NothingUnknown.{lowest_full}
 use Rattle.datetime.proofs.Highest.{text_long, lowest_exact, tail_byte}
 use Rattle.string_literal.specs.declared.InString.{InString}
-use Rattle.string_literal.specs.declared.InString.TheVariants.{Character}
+use Rattle.string_literal.specs.declared.InString.TheVariants.{Character, Close, Bad}
 use Rattle.string_literal.specs.Char.{char_at}
 use Rattle.string_literal.specs.Text.{text_at, characters_of}
-use Rattle.string_literal.proofs.Filling.{next_character}
-use Rattle.value_literal.specs.declared.datetime_text.Copy.{Copy}
-use Rattle.value_literal.specs.declared.datetime_text.Copy.TheVariants.{Count, NoDatetime}
+use Rattle.string_literal.proofs.Filling.{next_character, at_end as closed}
 use Rattle.value_literal.specs.DatetimeText.{Copied}
 
 says_none : (s : List ℕ) → (says_datetime s ≡ true → ⊥) → datetime_of s ≡ Malformed
@@ -152,10 +151,16 @@ pub wide_at : {r : InString} (q : List ℕ) (i : ℕ) (cs out : List ℕ) (n : �
 wide_at q i cs out n inv full e v next f h l =
     copied_wide cs (characters_of (text_at q i)) out n inv full v (characters_of (text_at q next)) (next_character q i e v next f) (omega arith) l
 
+-- what stands at a place is no character
+pub at_end : {r : InString} (q : List ℕ) (i : ℕ) → r ≡ char_at q i → ((v next : ℕ) → r ≡ Character v next → ⊥) → characters_of (text_at q i) ≡ []
+at_end {r = Character v next} q i e not = absurd (not v next refl)
+at_end {r = Close} q i e not = closed q i e (inl refl)
+at_end {r = Bad} q i e not = closed q i e (inr refl)
+
 -- what the copy says
-module _ (cs out : List ℕ) (c : Copy) (is : Copied cs out c) where
-  pub copied_read : (n : ℕ) → c ≡ Count n → (p : List ℕ) → p ≡ part out 0 n → (d : Datetime) → d ≡ datetime_of p → d ≡ datetime_of cs
+module _ (cs out : List ℕ) (c : Option ℕ) (is : Copied cs out c) where
+  pub copied_read : (n : ℕ) → c ≡ Some n → (p : List ℕ) → p ≡ part out 0 n → (d : Datetime) → d ≡ datetime_of p → d ≡ datetime_of cs
   copied_read n e p f d g = let h : take n out ≡ cs = rw e at is in g ∙ rw (f, h)
 
-  pub copied_none : c ≡ NoDatetime → Malformed ≡ datetime_of cs
+  pub copied_none : c ≡ None → Malformed ≡ datetime_of cs
   copied_none e = let h : datetime_of cs ≡ Malformed = rw e at is in sym h

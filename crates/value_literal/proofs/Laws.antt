@@ -55,10 +55,6 @@ module _ (q : List ℕ) (start end : ℕ) (x : Item) where
   unfolding item_value listed units_from hex_pairs
   octets_past h e = let l : length q ≤ start + 2 = omega arith in rw (e, no_octets q (start + 2) l (end - (start + 2)))
 
-  pub octets_short : end < start + 2 → x ≡ sequence_of sort.Octets Hex 0 0 → item_value q x ≡ some (value.octets (octets_of q start end))
-  unfolding item_value listed units_from hex_pairs
-  octets_short h e = let z : end - (start + 2) ≡ 0 = omega arith in rw (e, z)
-
   pub octets_pairs : x ≡ sequence_of sort.Octets Hex (start + 2) (end - (start + 2)) → item_value q x ≡ some (value.octets (octets_of q start end))
   unfolding item_value listed units_from
   octets_pairs e = rw e

@@ -2,7 +2,6 @@
 use Rattle.std.specs.Prelude.{ℕ, List, [], ◌∷◌, true, negsuc}
 use Rattle.std.proofs.Math.Option.{Option, none, some}
 use Rattle.base.specs.Ascii.{bytes}
-use Rattle.base.specs.declared.integer.Whole.TheVariants.{NegSuc}
 use Rattle.record.specs.declared.kind.Family.{Family}
 use Rattle.record.specs.declared.kind.Family.TheVariants as family
 use Rattle.datetime.specs.Datetime.{datetime_of}
@@ -25,7 +24,7 @@ it f q l = record { family = f; query = q; literal = l }
 abbrev pub values : List (Beside × Option ScalarValue)
 values =
     (it family.Boolean [] (Truth true), some (truth true))
-    ∷ (it family.Integer [] (Integer (NegSuc 4)), some (whole (negsuc 4)))
+    ∷ (it family.Integer [] (Integer (negsuc 4)), some (whole (negsuc 4)))
     ∷ (it family.Text [] Null, none)
     ∷ (it family.Text (bytes "x 'a\\u00e9\\''") (Text 2 13), some (text (97 ∷ 233 ∷ 39 ∷ [])))
     ∷ (it family.Reference (bytes "'a\\u00e9'") (Text 0 9), some (reference (97 ∷ 195 ∷ 169 ∷ [])))

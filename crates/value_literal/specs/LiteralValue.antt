@@ -4,7 +4,6 @@ use Rattle.std.specs.Prelude.{ℕ, ◌+◌, ◌-◌, List, length, ltb}
 use Rattle.std.proofs.Math.Option.{Option, none, some}
 use Rattle.base.specs.Pick.{pick}
 use Rattle.base.specs.Part.{part}
-use Rattle.base.specs.LittleEndian.{whole_of}
 use Rattle.record.specs.declared.kind.Family.{Family}
 use Rattle.record.specs.declared.kind.Family.TheVariants as family
 use Rattle.datetime.specs.Datetime.{datetime_of}
@@ -39,7 +38,7 @@ octets_of q start end = hex_pairs (part q (start + 2) (end - (start + 2)))
 
 unfoldable pub literal_value : Family → List ℕ → Literal → Option ScalarValue
 literal_value f q (Truth b) = some (truth b)
-literal_value f q (Integer n) = some (whole (whole_of n))
+literal_value f q (Integer n) = some (whole n)
 literal_value f q (Real x) = some (real x.value)
 literal_value f q (Text start end) = some (text_value f (text_of q start))
 literal_value f q (Octets start end) = some (octets (octets_of q start end))

@@ -10,22 +10,22 @@ ghost use Rattle.value.specs.Item.{listed, sequence_of, item_value};
 ghost use Rattle.instance.specs.Value as value;
 ghost use Rattle.value_literal.specs.LiteralValue.{text_of, octets_of, after_quote, text_value, literal_value};
 
+use crate::datetime_text::datetime_in;
 use literal::Literal;
 use record::kind::Family;
 use value::item::{Item, Sequence, Sort};
 use value::unit::Form;
 
 // The place after a quote, within the query.
+#[tactic(auto, unfolding(base::specs::Pick::pick))]
 pub fn after_quote(q: &[u8], start: usize) -> usize
     ensures { result ≡ after_quote q.now start }
 {
-    if start < q.len() {
-        return start + 1;
-    }
-    q.len()
+    if start < q.len() { start + 1 } else { q.len() }
 }
 
 // The units of the string literal that starts at a place.
+#[tactic(auto, using(crate::proofs::Laws::quoted_units))]
 fn quoted(sort: Sort, form: Form, q: &[u8], start: usize) -> Item
     ensures { item_value q.now result ≡ some (listed sort (units_from form q.now (after_quote q.now start))) }
 {
@@ -52,38 +52,31 @@ fn hex_octets(start: usize, length: usize) -> Item
 }
 
 // The octets of the hex literal from `start` to `end`.
+#[tactic(auto, using(crate::proofs::Laws::octets_past, crate::proofs::Laws::octets_pairs))]
 fn octets_item(q: &[u8], start: usize, end: usize) -> Item
     ensures { item_value q.now result ≡ some (value.octets (octets_of q.now start end)) }
 {
     if q.len() <= start {
         return hex_octets(0, 0);
     }
-    if end < start + 2 {
-        return hex_octets(0, 0);
-    }
-    hex_octets(start + 2, end - (start + 2))
+    let digits = start + 2;
+    hex_octets(digits, end.saturating_sub(digits))
 }
 
 // A text literal as a value of the family.
+#[tactic(auto, using(crate::proofs::Laws::quoted_text, crate::proofs::Laws::quoted_reference, crate::proofs::Laws::quoted_datetime), unfolding(crate::specs::LiteralValue::text_value))]
 fn text_item(family: Family, q: &[u8], start: usize) -> Item
     ensures { item_value q.now result ≡ some (text_value family (text_of q.now start)) }
 {
     match family {
-        Family::Boolean => quoted(Sort::Text, Form::Quoted, q, start),
-        Family::Integer => quoted(Sort::Text, Form::Quoted, q, start),
-        Family::Real => quoted(Sort::Text, Form::Quoted, q, start),
-        Family::Text => quoted(Sort::Text, Form::Quoted, q, start),
-        Family::Char16 => quoted(Sort::Text, Form::Quoted, q, start),
-        Family::Octets => quoted(Sort::Text, Form::Quoted, q, start),
-        Family::Datetime => Item::Datetime(crate::datetime_text::datetime_in(
-            q,
-            after_quote(q, start),
-        )),
+        Family::Datetime => Item::Datetime(datetime_in(q, after_quote(q, start))),
         Family::Reference => quoted(Sort::Reference, Form::Encoded(0), q, start),
+        _ => quoted(Sort::Text, Form::Quoted, q, start),
     }
 }
 
 // The value that a literal of the query stands for beside a value of the family, over the query's text.
+#[tactic(auto, unfolding(crate::specs::LiteralValue::literal_value, value::specs::Item::item_value))]
 pub fn literal_item(family: Family, q: &[u8], l: Literal) -> Item
     ensures { item_value q.now result ≡ literal_value family q.now l }
 {

@@ -1,4 +1,5 @@
 -- What follows for a call of watch: when it is refused, the totals, each mark, the bytes beyond.
+use Rattle.std.specs.Prelude.{Err, Ok, Result}
 use Prim.Native.Nat.{ℕ, ◌+◌, ◌≤◌, ◌<◌}
 use mathlib.Core.List.{List, ◌++◌}
 use mathlib.Core.Logic.{◌↔◌}
@@ -14,26 +15,22 @@ use Rattle.run.specs.declared.totals.Totals.{Totals}
 use Rattle.run.proofs.Corollaries.{marks_length}
 use Rattle.mark.specs.Mark as mark
 use Rattle.mark.specs.declared.refusal.MarkRefusal.{MarkRefusal}
-use Rattle.mark.specs.declared.refusal.Marked.{Marked}
-use Rattle.mark.specs.declared.refusal.Marked.TheVariants as marked
 use Rattle.watch.specs.declared.refusal.WatchTotals.{WatchTotals}
 use Rattle.watch.specs.declared.refusal.WatchRefusal.{WatchRefusal}
 use Rattle.watch.specs.declared.refusal.WatchCause.TheVariants.{Window, Mark}
-use Rattle.watch.specs.declared.refusal.Watched.{Watched}
-use Rattle.watch.specs.declared.refusal.Watched.TheVariants as watched
 use Rattle.watch.specs.Window.{included, window_mark}
 use Rattle.watch.specs.Watch.{in_range, out_of_range, totals_of, watch_marks_of, watch_marked, watch, marks_by, marks_after}
 use Rattle.watch.proofs.Marks.{one_exactly, from_sum, watch_marks_at, watch_marks_length}
 
-abbrev window_fault : Watched → ℕ
-window_fault w = elim w [ watched.Totals x ↦ 0 | watched.Refused r ↦ elim r.cause [ Window ↦ 1 | Mark c ↦ 0 ] ]
+abbrev window_fault : Result WatchTotals WatchRefusal → ℕ
+window_fault w = elim w [ Ok x ↦ 0 | Err r ↦ elim r.cause [ Window ↦ 1 | Mark c ↦ 0 ] ]
 
 module _ (q t run : List ℕ) (n k size : ℕ) where
-  not_outside : (ms : List ℕ) (v : Marked) → watch_marked ms v ≡ out_of_range → ⊥
-  not_outside ms (marked.Refused r) e = let z : ◌≡◌ {A = ℕ} 0 1 = ap window_fault e in omega arith
-  not_outside ms (marked.Totals y) e = let z : ◌≡◌ {A = ℕ} 0 1 = ap window_fault e in omega arith
+  not_outside : (ms : List ℕ) (v : Result Totals MarkRefusal) → watch_marked ms v ≡ out_of_range → ⊥
+  not_outside ms (Err r) e = let z : ◌≡◌ {A = ℕ} 0 1 = ap window_fault e in omega arith
+  not_outside ms (Ok y) e = let z : ◌≡◌ {A = ℕ} 0 1 = ap window_fault e in omega arith
 
-  decides : (b : Bool) (ms : List ℕ) (v : Marked) → (pick b (watch_marked ms v) out_of_range ≡ out_of_range) ↔ (b ≡ false)
+  decides : (b : Bool) (ms : List ℕ) (v : Result Totals MarkRefusal) → (pick b (watch_marked ms v) out_of_range ≡ out_of_range) ↔ (b ≡ false)
   decides true ms v = (λ e. absurd (not_outside ms v e), λ e. let z : ◌≡◌ {A = ℕ} 0 1 = cc in absurd (omega arith))
   decides false ms v = (λ e. refl, λ e. refl)
 
@@ -43,33 +40,33 @@ module _ (q t run : List ℕ) (n k size : ℕ) where
   window_exactly = decides (in_range n k) (watch_marks_of q t run n k) (mark.mark q t run size)
 
   -- "refused as mark"
-  pub refused_as_mark : in_range n k ≡ true → (r : MarkRefusal) → mark.mark q t run size ≡ marked.Refused r
-      → watch q t run n k size ≡ watched.Refused (record { cause = Mark r.cause; place = r.place })
+  pub refused_as_mark : in_range n k ≡ true → (r : MarkRefusal) → mark.mark q t run size ≡ Err r
+      → watch q t run n k size ≡ Err (record { cause = Mark r.cause; place = r.place })
   unfolding watch
   refused_as_mark h r e = rw (h, e) refl
 
 -- ---- a good call: in range, one that mark too would serve, and its totals are counts of its marks
 pub record Served (q t run : List ℕ) (n k size : ℕ) (x : WatchTotals) : Type 0 where
   pub in_range_law : in_range n k ≡ true
-  pub marked : (y : Totals) × (mark.mark q t run size ≡ marked.Totals y)
+  pub marked : (y : Totals) × (mark.mark q t run size ≡ Ok y)
   pub totals : x ≡ totals_of (watch_marks_of q t run n k)
 
 module _ (q t run : List ℕ) (n k size : ℕ) (x : WatchTotals) where
-  not_totals : (r : WatchRefusal) → watched.Refused r ≡ watched.Totals x → ⊥
+  not_totals : (r : WatchRefusal) → Err r ≡ Ok x → ⊥
   not_totals r e = let z : ◌≡◌ {A = ℕ} 0 1 = cc in omega arith
 
-  served_by : (b : Bool) → in_range n k ≡ b → (v : Marked) → mark.mark q t run size ≡ v → (r : WatchRefusal)
-      → pick b (watch_marked (watch_marks_of q t run n k) v) (watched.Refused r) ≡ watched.Totals x → Served q t run n k size x
-  served_by true h (marked.Totals y) g r e = record { in_range_law = h; marked = (y, g); totals = cc }
-  served_by true h (marked.Refused s) g r e = absurd (not_totals _ e)
+  served_by : (b : Bool) → in_range n k ≡ b → (v : Result Totals MarkRefusal) → mark.mark q t run size ≡ v → (r : WatchRefusal)
+      → pick b (watch_marked (watch_marks_of q t run n k) v) (Err r) ≡ Ok x → Served q t run n k size x
+  served_by true h (Ok y) g r e = record { in_range_law = h; marked = (y, g); totals = cc }
+  served_by true h (Err s) g r e = absurd (not_totals _ e)
   served_by false h v g r e = absurd (not_totals r e)
 
-  pub served : watch q t run n k size ≡ watched.Totals x → Served q t run n k size x
+  pub served : watch q t run n k size ≡ Ok x → Served q t run n k size x
   unfolding watch
   served e = served_by (in_range n k) refl (mark.mark q t run size) refl _ e
 
   -- ones + zeros is the number of instances
-  pub totals_sum : watch q t run n k size ≡ watched.Totals x → x.ones + x.zeros ≡ length (instances_of run)
+  pub totals_sum : watch q t run n k size ≡ Ok x → x.ones + x.zeros ≡ length (instances_of run)
   totals_sum e =
       ap (λ (y : WatchTotals). y.ones + y.zeros) (served e).totals
       ∙ from_sum n k (marks_of q t run) 0 (length (marks_of q t run))
@@ -78,11 +75,11 @@ module _ (q t run : List ℕ) (n k size : ℕ) (x : WatchTotals) where
 -- ---- the marks
 module _ (q t run : List ℕ) (n k : ℕ) (m : List ℕ) where
   -- a refused call leaves every byte
-  pub refused_leaves : (r : WatchRefusal) → watch q t run n k (length m) ≡ watched.Refused r → marks_after q t run n k m ≡ m
+  pub refused_leaves : (r : WatchRefusal) → watch q t run n k (length m) ≡ Err r → marks_after q t run n k m ≡ m
   unfolding marks_after
   refused_leaves r e = ap (marks_by q t run n k m) e
 
-  module _ (x : WatchTotals) (good : watch q t run n k (length m) ≡ watched.Totals x) where
+  module _ (x : WatchTotals) (good : watch q t run n k (length m) ≡ Ok x) where
     after : marks_after q t run n k m ≡ watch_marks_of q t run n k ++ drop (length (instances_of run)) m
     unfolding marks_after
     after = ap (marks_by q t run n k m) good

@@ -3,44 +3,42 @@ use Prim.Native.Nat.{ℕ, ◌+◌, ◌-◌, ◌≤◌, ◌<◌}
 use mathlib.Core.List.{List}
 use mathlib.Core.Path.{◌≡◌, sym, ap, ◌∙◌}
 use native.Mathlib.Omega.{arith}
-use lib.ListN.{length, get_or, take}
-use lib.Seq.{length-take-le, get_or-take}
-use Rattle.run.proofs.Counts.{one, one_small}
+use lib.ListN.{length, get_or, take, drop}
+use lib.Seq.{length-take-le}
+use Rattle.std.proofs.lemmas.List.{drop-take}
+use Rattle.base.proofs.Lists.{at_end_law}
+use Rattle.run.proofs.Counts.{one, count_none, count_from}
 use Rattle.run.specs.Totals.{count}
-use Rattle.watch.specs.Window.{is_one, included}
-use Rattle.watch.proofs.Windows.{last_all, included_few, included_none, included_more, ends_with, moves_short, moves_whole}
+use Rattle.watch.specs.Window.{is_one, last_of, included}
+use Rattle.watch.proofs.Windows.{included_few, ends_with, moves_short, moves_whole}
 
--- ---- included_before: the last i of the window are counted
-pub record Counting (ms : List ℕ) (end window ones i : ℕ) : Type 0 where
-  pub counts : ones ≡ included i (take end ms)
-  pub inside : i ≤ window
+-- ---- included_before: the window's marks, those from `i` on still to be counted
+module _ (ms : List ℕ) (end window : ℕ) (room : end ≤ length ms) where
+  abbrev pub window_of : List ℕ
+  window_of = take (end - (end - window)) (drop (end - window) ms)
 
-module _ (ms : List ℕ) (end window : ℕ) where
-  pub counting_begins : Counting ms end window 0 0
-  counting_begins = record { counts = sym (included_none (take end ms)); inside = omega arith }
+  marks_seen : window_of ≡ last_of window (take end ms)
+  marks_seen =
+      let e : (end - window) + (end - (end - window)) ≡ end = omega arith in
+      sym (drop-take (end - window) (end - (end - window)) ms)
+      ∙ ap (λ (n : ℕ). drop (end - window) (take n ms)) e
+      ∙ ap (λ (n : ℕ). drop (n - window) (take end ms)) (sym (length-take-le end ms room))
 
-  module _ (ones i : ℕ) (room : end ≤ length ms) (w : Counting ms end window ones i) where
-    size : length (take end ms) ≡ end
-    size = length-take-le end ms room
+  pub counting_begins : 0 + count is_one window_of ≡ included window (take end ms)
+  counting_begins =
+      let e : count is_one window_of ≡ included window (take end ms) = ap (count is_one) marks_seen in
+      omega (arith, e)
 
-    -- all that there are
-    pub counting_all : end ≤ i → ones ≡ included window (take end ms)
-    counting_all l =
-        w.counts ∙ ap (count is_one) (last_all i (take end ms) (omega (arith, size)) ∙ sym (last_all window (take end ms) (omega (arith, size, w.inside))))
+module _ (marks : List ℕ) (whole ones i : ℕ) (w : ones + count is_one (drop i marks) ≡ whole) where
+  pub counting_ends : length marks ≤ i → ones ≡ whole
+  counting_ends h = omega (arith, w, at_end_law (count is_one) marks i h, count_none is_one)
 
-    pub counting_ends : window ≤ i → ones ≡ included window (take end ms)
-    counting_ends h = w.counts ∙ ap (λ (n : ℕ). included n (take end ms)) (let e : i ≡ window = omega (arith, w.inside) in e)
+  module _ (h : i < length marks) {r : ℕ} (e : r ≡ one is_one (get_or marks i 0)) where
+    pub counting_next : (ones + r) + count is_one (drop (i + 1) marks) ≡ whole
+    counting_next = omega (arith, w, count_from is_one marks i 0 h)
 
-    module _ (l : i < end) {r : ℕ} (e : r ≡ one is_one (get_or ms (end - (i + 1)) 0)) where
-      pub counting_fits : ones + r ≤ end
-      counting_fits = omega (arith, w.counts, included_few i (take end ms), one_small is_one (get_or ms (end - (i + 1)) 0))
-
-      pub counting_next : i < window → Counting ms end window (ones + r) (i + 1)
-      counting_next h =
-          let f = included_more i (take end ms) (omega (arith, size)) in
-          let g : get_or (take end ms) (length (take end ms) - (i + 1)) 0 ≡ get_or ms (end - (i + 1)) 0 =
-          ap (λ (n : ℕ). get_or (take end ms) (n - (i + 1)) 0) size ∙ get_or-take end ms (end - (i + 1)) 0 (omega arith) in
-          record { counts = omega (arith, w.counts, f, ap (one is_one) g); inside = omega arith }
+    pub counting_fits : (n : ℕ) (ms : List ℕ) → whole ≡ included n ms → ones + r ≤ n
+    counting_fits n ms f = omega (arith, counting_next, f, included_few n ms)
 
 -- ---- moved_before
 module _ (ms : List ℕ) (end window held : ℕ) (h : end < length ms) (g : 1 ≤ window) (e : held ≡ included window (take (end + 1) ms)) {o : ℕ} (eo : o ≡ one is_one (get_or ms end 0)) where

@@ -104,23 +104,9 @@ module _ (n k : ℕ) (old : List ℕ) (size : ℕ) where
             same = length-set m j v ∙ w.same;
           }
 
-    -- ---- as the code meets it
-    module _ (h : 0 < left) where
-      before : left - 1 + 1 ≡ left
-      before = omega arith
-
-      pub passing_room : left - 1 < length m
-      passing_room = omega (arith, w.inside, w.room, w.same)
-
-      pub passing_window : held ≡ included n (take (left - 1 + 1) m)
-      passing_window = window_with (left - 1) before
-
-      module _ {v : ℕ} (ev : v ≡ pick (leb k held) 1 0) {g : ℕ} (eg : g ≡ included n (take (left - 1) m)) {u : ℕ} (eu : u ≡ one is_one v) where
-        pub passing_next : Passing n k old size (left - 1) (set m (left - 1) v) g (ones + u)
-        passing_next = rw eu (next_one (left - 1) before v ev eg)
-
-      pub passing_fits : (v : ℕ) {u : ℕ} → u ≡ one is_one v → ones + u ≤ size
-      passing_fits v eu = omega (arith, passing_few, one_small is_one v, w.inside)
+    pub passing_before : 0 < left → {v : ℕ} → v ≡ pick (leb k held) 1 0 → {g : ℕ} → g ≡ included n (take (left - 1) m) → {u : ℕ} → u ≡ one is_one v
+        → Passing n k old size (left - 1) (set m (left - 1) v) g (ones + u)
+    passing_before h ev eg eu = rw eu (next_one (left - 1) (let e : left - 1 + 1 ≡ left = omega arith in e) _ ev eg)
 
     pub passing_most : ones ≤ size
     passing_most = omega (arith, passing_few)
@@ -142,3 +128,14 @@ module _ (n k : ℕ) (old : List ℕ) (size : ℕ) where
 
       pub passing_marks : m ≡ watch_marks n k (take size old) ++ drop size old
       passing_marks = ap (λ (i : ℕ). drop i m) (sym ended) ∙ w.done ∙ ap (λ (l : List ℕ). l ++ drop size old) all
+
+  -- ---- as the code meets it, at the mark before `j + 1`
+  module _ (j : ℕ) (m : List ℕ) (held ones : ℕ) (w : Passing n k old size (j + 1) m held ones) where
+    pub passing_room : j < length m
+    passing_room = omega (arith, w.inside, w.room, w.same)
+
+    pub passing_window : held ≡ included n (take (j + 1) m)
+    passing_window = w.window
+
+    pub passing_fits : (v : ℕ) {u : ℕ} → u ≡ one is_one v → ones + u ≤ size
+    passing_fits v eu = omega (arith, passing_few (j + 1) m held ones w, one_small is_one v, w.inside)

@@ -1,4 +1,5 @@
 -- The plain marks that a watch counts, and what it makes of them with a window and a need of one: the plain marks with 255 as 0.
+use Rattle.std.specs.Prelude.{Err, Ok, Result}
 use Prim.Native.Nat.{ℕ, zero, suc, ◌+◌, ◌-◌, ◌≤◌, ◌<◌}
 use mathlib.Core.List.{List, [], ◌∷◌, map}
 use mathlib.Core.Bool.{Bool, true, false}
@@ -10,18 +11,19 @@ use lib.Dec.{leb, eqb}
 use Rattle.base.specs.Pick.{pick}
 use Rattle.base.proofs.Lists.{at_next, at_end_law}
 use Rattle.filter.specs.declared.refusal.Answer.{Answer}
-use Rattle.filter.specs.declared.refusal.Answer.TheVariants.{Included, Excluded, Refused}
+use Rattle.filter.specs.declared.refusal.Answer.TheVariants.{Included, Excluded}
 use Rattle.run.specs.Totals.{mark_of, answers_of, marks_of, is_included, count}
 use Rattle.run.proofs.Counts.{one, count_none}
 use Rattle.watch.specs.Window.{is_one, included, window_mark, watch_marks_from, watch_marks}
 use Rattle.watch.proofs.Windows.{ends_with}
 use Rattle.watch.proofs.Marks.{from_none, from_next}
+use Rattle.filter.specs.declared.refusal.Refusal.{Refusal}
 
 -- a plain mark is 1 where evaluate includes the instance, and nowhere else
-pub one_included : (a : Answer) → is_one (mark_of a) ≡ is_included a
-one_included (Included s) = refl
-one_included (Excluded s) = refl
-one_included (Refused r) = refl
+pub one_included : (a : Result Answer Refusal) → is_one (mark_of a) ≡ is_included a
+one_included (Ok (Included s)) = refl
+one_included (Ok (Excluded s)) = refl
+one_included (Err r) = refl
 
 -- ---- a window and a need of one
 module _ (ms : List ℕ) where
@@ -49,11 +51,11 @@ module _ (ms : List ℕ) where
   alone = alone_from (length ms) 0 (omega arith)
 
 -- of a run's plain marks, which are 1, 0 and 255
-failed_as_zero : (answers : List Answer) → map (one is_one) (map mark_of answers) ≡ map (λ (m : ℕ). pick (eqb m 255) 0 m) (map mark_of answers)
+failed_as_zero : (answers : List (Result Answer Refusal)) → map (one is_one) (map mark_of answers) ≡ map (λ (m : ℕ). pick (eqb m 255) 0 m) (map mark_of answers)
 failed_as_zero [] = refl
-failed_as_zero (Included s ∷ rest) = ap (λ (l : List ℕ). 1 ∷ l) (failed_as_zero rest)
-failed_as_zero (Excluded s ∷ rest) = ap (λ (l : List ℕ). 0 ∷ l) (failed_as_zero rest)
-failed_as_zero (Refused r ∷ rest) = ap (λ (l : List ℕ). 0 ∷ l) (failed_as_zero rest)
+failed_as_zero (Ok (Included s) ∷ rest) = ap (λ (l : List ℕ). 1 ∷ l) (failed_as_zero rest)
+failed_as_zero (Ok (Excluded s) ∷ rest) = ap (λ (l : List ℕ). 0 ∷ l) (failed_as_zero rest)
+failed_as_zero (Err r ∷ rest) = ap (λ (l : List ℕ). 0 ∷ l) (failed_as_zero rest)
 
 -- the plain marks with 255 replaced by 0
 pub one_of_one : (q t run : List ℕ) → watch_marks 1 1 (marks_of q t run) ≡ map (λ (m : ℕ). pick (eqb m 255) 0 m) (marks_of q t run)

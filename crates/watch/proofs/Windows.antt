@@ -9,7 +9,6 @@ use lib.ListN.{length, get_or, take, drop, length-append, length-drop, take-appe
 use lib.Seq.{length-take-le, take-suc, drop_at, drop-append-le, drop-append-add, get_or-take}
 use lib.Dec.{leb}
 use borrow.Author.Tests.{leb-true, leb-false}
-use Rattle.base.proofs.Lists.{at_end_law}
 use Rattle.run.specs.Totals.{count}
 use Rattle.run.proofs.Counts.{one, count_none, count_next, count_append, count_small, count_from}
 use Rattle.watch.specs.Window.{is_one, last_of, included}
@@ -44,15 +43,6 @@ last_before n before ms g h = go (leb (length before) (n - 1)) refl
 -- ---- a window of marks, one by one
 pub included_few : (n : ℕ) (ms : List ℕ) → included n ms ≤ n
 included_few n ms = omega (arith, count_small is_one (last_of n ms), length-drop (length ms - n) ms)
-
-pub included_none : (ms : List ℕ) → included 0 ms ≡ 0
-included_none ms = at_end_law (count is_one) ms (length ms - 0) (omega arith) ∙ count_none is_one
-
-pub included_more : (n : ℕ) (ms : List ℕ) → n < length ms → included (n + 1) ms ≡ one is_one (get_or ms (length ms - (n + 1)) 0) + included n ms
-included_more n ms h =
-    let s : length ms - (n + 1) + 1 ≡ length ms - n = omega arith in
-    count_from is_one ms (length ms - (n + 1)) 0 (omega arith)
-    ∙ ap (λ (i : ℕ). one is_one (get_or ms (length ms - (n + 1)) 0) + count is_one (drop i ms)) s
 
 -- ---- the window that ends with a mark, and the one that ends before it
 module _ (n : ℕ) (ms : List ℕ) (end : ℕ) (h : end < length ms) (g : 1 ≤ n) where

@@ -2,7 +2,7 @@
 ghost use Rattle.std.specs.Prelude.{◌≡◌};
 ghost use Rattle.watch.specs.Watch.{number_of};
 
-use mark::refusal::MarkCause;
+use mark::refusal::{MarkCause, MarkRefusal};
 
 // How many instances are marked 1, and how many 0.
 #[derive(Drop)]
@@ -24,10 +24,18 @@ pub struct WatchRefusal {
     pub place: usize,
 }
 
-#[derive(Drop)]
-pub enum Watched {
-    Totals(WatchTotals),
-    Refused(WatchRefusal),
+// Mark's, with its cause and place.
+impl From<MarkRefusal> for WatchRefusal {
+    ghost use Rattle.watch.specs.declared.refusal.WatchCause.{WatchCause};
+
+    ghost from_gives = { λ m w. w ≡ record { cause = WatchCause.Mark m.cause; place = m.place } };
+
+    fn from(m: MarkRefusal) -> WatchRefusal {
+        WatchRefusal {
+            cause: WatchCause::Mark(m.cause),
+            place: m.place,
+        }
+    }
 }
 
 // The number of a cause, 02's or 01's.

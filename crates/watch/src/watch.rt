@@ -2,10 +2,9 @@
 ghost use Rattle.std.specs.Prelude.{◌≡◌, length};
 ghost use Rattle.watch.specs.Watch as Watch;
 
-use crate::refusal::{WatchCause, WatchRefusal, Watched};
+use crate::refusal::{WatchCause, WatchRefusal, WatchTotals};
 use crate::window::watch_marks;
 use mark::mark::mark;
-use mark::refusal::Marked;
 
 fn in_range(window: usize, need: usize) -> bool
     ensures { result ≡ Watch.in_range window need }
@@ -15,6 +14,7 @@ fn in_range(window: usize, need: usize) -> bool
 
 // One mark for each instance of the run, 1 where at least `need` of the last `window` instances are included, and how many are 1 and 0;
 // a refused call leaves the marks as they are.
+#[tactic(auto, using(crate::proofs::Laws::enough))]
 pub fn watch<'a>(
     query: &'a [u8],
     table: &'a [u8],
@@ -22,25 +22,20 @@ pub fn watch<'a>(
     window: usize,
     need: usize,
     marks: &mut [u8],
-) -> Watched
+) -> Result<WatchTotals, WatchRefusal>
     ensures { (result ≡ Watch.watch query.now table.now run.now window need (length marks.old)) × (marks.new ≡ Watch.marks_after query.now table.now run.now window need marks.old) × (length marks.new ≡ length marks.old) }
 {
     if !in_range(window, need) {
-        return Watched::Refused(WatchRefusal {
+        return Err(WatchRefusal {
             cause: WatchCause::Window,
             place: 0,
         });
     }
-    match mark(query, table, run, marks) {
-        Marked::Refused(r) => {
-            let cause = r.cause;
-            Watched::Refused(WatchRefusal {
-                cause: WatchCause::Mark(cause),
-                place: r.place,
-            })
-        }
-        Marked::Totals(t) => {
-            Watched::Totals(watch_marks(marks, t.included + t.excluded + t.failed, window, need))
-        }
-    }
+    let totals = mark(query, table, run, marks)?;
+    Ok(watch_marks(
+        marks,
+        totals.included + totals.excluded + totals.failed,
+        window,
+        need,
+    ))
 }

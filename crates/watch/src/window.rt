@@ -10,28 +10,24 @@ use crate::refusal::WatchTotals;
 fn one_of(mark: u8) -> usize
     ensures { result ≡ pick (is_one mark) 1 0 }
 {
-    (mark == 1) as usize
+    usize::from(mark == 1)
 }
 
 fn window_mark(held: usize, need: usize) -> u8
     ensures { result ≡ pick (leb need held) 1 0 }
 {
-    (need <= held) as u8
+    u8::from(need <= held)
 }
 
 // How many instances of the window that ends before `end` are included.
+#[tactic(auto, using(crate::proofs::Counting::counting_begins))]
 fn included_before(marks: &[u8], end: usize, window: usize) -> usize
     requires { end ≤ length marks.now }
     ensures { result ≡ included window (take end marks.now) }
 {
     let mut ones: usize = 0;
-    let mut i: usize = 0;
-    while i < window {
-        if end <= i {
-            return ones;
-        }
-        i += 1;
-        ones += one_of(marks[end - i]);
+    for mark in &marks[end.saturating_sub(window)..end] {
+        ones += one_of(*mark);
     }
     ones
 }
@@ -49,15 +45,14 @@ fn moved_before(marks: &[u8], end: usize, window: usize, held: usize) -> usize
 }
 
 // Makes the first `count` marks, which are plain, those of the watch.
+#[tactic(auto, using(crate::proofs::Passing::passing_begins, crate::proofs::Passing::passing_room, crate::proofs::Passing::passing_window, crate::proofs::Passing::passing_fits, crate::proofs::Passing::passing_most, crate::proofs::Passing::passing_same, crate::proofs::Passing::passing_totals, crate::proofs::Passing::passing_marks))]
 pub(crate) fn watch_marks(marks: &mut [u8], count: usize, window: usize, need: usize) -> WatchTotals
     requires { (count ≤ length marks.old) × (1 ≤ window) }
     ensures { (result ≡ totals_of (watch_marks window need (take count marks.old))) × (marks.new ≡ watch_marks window need (take count marks.old) ++ drop count marks.old) × (length marks.new ≡ length marks.old) }
 {
     let mut held = included_before(marks, count, window);
-    let mut left = count;
     let mut ones: usize = 0;
-    while 0 < left {
-        left -= 1;
+    for left in (0..count).rev() {
         let mark = window_mark(held, need);
         held = moved_before(marks, left, window, held);
         marks[left] = mark;

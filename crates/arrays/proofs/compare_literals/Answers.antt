@@ -1,34 +1,31 @@
-use borrow.Author.Rules.{rules}
-use Prim.Native.Nat.{◌+◌, ◌-◌, ◌≤◌}
-use mathlib.Core.Path.{◌≡◌}
-use mathlib.Core.Option.{some}
-use native.Mathlib.Omega.{arith}
-use lib.ListN.{length}
-use Rattle.record.specs.Record.{records}
-use Rattle.instance.specs.Conforms.{count}
-use Rattle.instance.specs.Value.{elements}
-use Rattle.place.specs.Place.{elements_of}
-use Rattle.arrays.specs.Answers.{compared}
+use Rattle.std.proofs.Common.{rules, ◌≡◌}
+use Rattle.record.specs.Record.{broken, ended}
+use Rattle.record.specs.Walked.{left, Passes}
 use Rattle.arrays.proofs.Comparing as law
 use Rattle.arrays.proofs.compare_literals.Goals as goal
 
-pub loop-next-init : goal.loop-next-init
-loop-next-init c = (law.literals_first _ _ _ _ _ _, search rules)
+pub loop-record-init : goal.loop-record-init
+loop-record-init c = (search (rules, law.literals_first), search rules, search rules)
 
-pub overflow_add-n : goal.overflow_add-n
-overflow_add-n c = let m = law.unlike_room _ _ _ _ _ c.beside_at.ensures c.in-Unlike.is _ c.loop-next.invariant.1 in omega arith
+pub loop-record-preserved : goal.loop-record-preserved
+loop-record-preserved c =
+    let p : Passes c.loop-record.record-iterator c.in-Ok.record c.next.new.self = search rules in (
+      law.literals_next _ _ _ _ _ _ _ _ _ c.loop-record.invariant.0 _ _ _ _ _ p.walked _ c.literal_item_or_null-y.ensures _ c.holds_in.ensures (search rules) _ c.next_element-t.ensures,
+      search rules,
+      search rules,
+    )
 
-pub overflow_add-n-in-Onward : goal.overflow_add-n-in-Onward
-overflow_add-n-in-Onward c = let m = law.onward_room _ _ _ _ _ c.beside_at.ensures _ c.in-Onward.is _ c.loop-next.invariant.1 in omega arith
+pub returns-else-holds_in : goal.returns-else-holds_in
+returns-else-holds_in c =
+    let p : Passes c.loop-record.record-iterator c.in-Ok.record c.next.new.self = search rules in
+    law.literals_differ _ _ _ _ _ _ _ _ _ c.loop-record.invariant.0 _ _ _ _ _ p.walked _ c.literal_item_or_null-y.ensures _ c.holds_in.ensures (search rules) _ c.tell-else-holds_in.ensures
 
-pub loop-next-smaller : goal.loop-next-smaller
-loop-next-smaller c = search law.onward_less
+pub returns-in_default : goal.returns-in_default
+returns-in_default c =
+    let f : left c.loop-record.record-iterator ≡ broken c.in_default.field-0 = search rules in
+    law.literals_broken _ _ _ _ _ _ _ _ _ c.loop-record.invariant.0 _ f _ c.tell.ensures
 
-pub loop-next-preserved : goal.loop-next-preserved
-loop-next-preserved c = (search law.literals_go, search law.onward_counts)
-
-pub returns-in-Ended : goal.returns-in-Ended
-returns-in-Ended c = search law.literals_stop
-
-pub returns-in-Unlike : goal.returns-in-Unlike
-returns-in-Unlike c = search law.literals_differ
+pub returns : goal.returns
+returns c =
+    let f : left c.loop-record.record-iterator ≡ ended = search rules in
+    law.literals_over _ _ _ _ _ _ _ _ _ c.loop-record.invariant.0 f _ c.tell-2.ensures

@@ -1,34 +1,40 @@
-use borrow.Author.Rules.{rules}
-use Prim.Native.Nat.{◌+◌, ◌-◌, ◌≤◌}
-use mathlib.Core.Path.{◌≡◌}
-use mathlib.Core.Option.{some}
-use native.Mathlib.Omega.{arith}
-use lib.ListN.{length}
-use Rattle.record.specs.Record.{records}
-use Rattle.instance.specs.Conforms.{count}
-use Rattle.instance.specs.Value.{elements}
-use Rattle.place.specs.Place.{elements_of}
-use Rattle.arrays.specs.Answers.{compared}
+use Rattle.std.proofs.Common.{rules, ◌≡◌}
+use Rattle.record.specs.Record.{broken}
+use Rattle.record.specs.Walked.{left, Passes}
 use Rattle.arrays.proofs.Comparing as law
 use Rattle.arrays.proofs.compare_pairs.Goals as goal
 
-pub loop-next-init : goal.loop-next-init
-loop-next-init c = (law.pairs_first _ _ _ _ _ c.requires, c.requires, search rules)
+pub loop-x-init : goal.loop-x-init
+loop-x-init c = (search (rules, law.pairs_first), search rules, search rules, search rules)
 
-pub overflow_add-n : goal.overflow_add-n
-overflow_add-n c = let m = law.differ_room _ _ _ _ _ _ c.loop-next.invariant.1 _ c.pair_at.ensures c.in-Differ.is _ c.loop-next.invariant.2 in omega arith
+pub loop-x-preserved : goal.loop-x-preserved
+loop-x-preserved c =
+    let inv = c.loop-x.invariant in
+    let p : Passes c.loop-x.x-iterator.a c.in-Ok.x c.next.new.self.a = search rules in
+    let q : Passes c.loop-x.x-iterator.b c.in-Ok-y.y c.next.new.self.b = search rules in (
+      law.pairs_next _ _ _ _ _ _ _ _ _ inv.0 inv.1 _ _ _ _ _ p.walked _ _ _ _ _ q.walked _ c.read_item-other.ensures _ c.holds_in.ensures (search rules),
+      law.pairs_level _ _ _ _ _ _ _ _ _ inv.0 inv.1 _ _ _ _ _ p.walked _ _ _ _ _ q.walked _ c.read_item-other.ensures _ c.holds_in.ensures,
+      search rules,
+      search rules,
+    )
 
-pub overflow_add-n-in-Go : goal.overflow_add-n-in-Go
-overflow_add-n-in-Go c = let m = law.go_room _ _ _ _ _ _ c.loop-next.invariant.1 _ c.pair_at.ensures _ _ c.in-Go.is _ c.loop-next.invariant.2 in omega arith
+pub returns-else-holds_in : goal.returns-else-holds_in
+returns-else-holds_in c =
+    let inv = c.loop-x.invariant in
+    let p : Passes c.loop-x.x-iterator.a c.in-Ok.x c.next.new.self.a = search rules in
+    let q : Passes c.loop-x.x-iterator.b c.in-Ok-y.y c.next.new.self.b = search rules in
+    law.pairs_differ _ _ _ _ _ _ _ _ _ inv.0 inv.1 _ _ _ _ _ p.walked _ _ _ _ _ q.walked _ c.read_item-other.ensures _ c.holds_in.ensures (search rules) _ c.tell-else-holds_in.ensures
 
-pub loop-next-smaller : goal.loop-next-smaller
-loop-next-smaller c = search law.go_less
+pub returns-in_default : goal.returns-in_default
+returns-in_default c =
+    let f : left c.loop-x.x-iterator.a ≡ broken c.in_default.field-0 = search rules in
+    law.pairs_broken _ _ _ _ _ _ _ _ _ c.loop-x.invariant.0 c.loop-x.invariant.1 _ f _ c.tell.ensures
 
-pub loop-next-preserved : goal.loop-next-preserved
-loop-next-preserved c = (search law.pairs_go, search law.go_level, search law.go_counts)
+pub returns-in_default-y : goal.returns-in_default-y
+returns-in_default-y c =
+    let f : left c.loop-x.x-iterator.b ≡ broken c.in_default-y.field-0 = search rules in
+    law.pairs_other_broken _ _ _ _ _ _ _ _ _ c.loop-x.invariant.0 c.loop-x.invariant.1 _ f _ c.tell-in_default-y.ensures
 
-pub returns-in-Stop : goal.returns-in-Stop
-returns-in-Stop c = search law.pairs_stop
-
-pub returns-in-Differ : goal.returns-in-Differ
-returns-in-Differ c = search law.pairs_differ
+pub returns : goal.returns
+returns c =
+    law.pairs_over _ _ _ _ _ _ _ _ _ c.loop-x.invariant.0 c.loop-x.invariant.1 (law.either_ended _ _ _ _ _ c.next.ensures.steps (search rules)) _ c.tell-2.ensures

@@ -2,8 +2,8 @@ use Rattle.judge.proofs.Judging as law
 use borrow.Author.Rules.{rules}
 use Rattle.judge.proofs.judge_kind.Goals as goal
 
-pub returns-in-Untyped : goal.returns-in-Untyped
-returns-in-Untyped c = search law.untyped
+pub returns-in-None : goal.returns-in-None
+returns-in-None c = rw c.at.ensures (search law.untyped)
 
-pub returns-in-Of : goal.returns-in-Of
-returns-in-Of c = search law.typed
+pub returns-in-Some : goal.returns-in-Some
+returns-in-Some c = search law.typed

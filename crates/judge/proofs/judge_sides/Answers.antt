@@ -3,10 +3,10 @@ use borrow.Author.Rules.{rules}
 use Rattle.judge.proofs.judge_sides.Goals as goal
 
 pub returns-in-Missing : goal.returns-in-Missing
-returns-in-Missing c = search law.sides_missing
+returns-in-Missing c = rw c.at.ensures (search law.sides_missing)
 
 pub returns-in-Unindexable : goal.returns-in-Unindexable
-returns-in-Unindexable c = search law.sides_unindexable
+returns-in-Unindexable c = rw c.at-in-Unindexable.ensures (search law.sides_unindexable)
 
 pub returns-in-One : goal.returns-in-One
 returns-in-One c = search law.sides_one

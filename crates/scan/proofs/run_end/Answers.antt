@@ -1,17 +1,15 @@
 use mathlib.Core.Bool.{not}
-use borrow.Author.Rules.{rules}
-use Prim.Native.Nat.{◌≤◌, ◌-◌}
-use mathlib.Core.Path.{◌≡◌, sym, ◌∙◌, ap}
-use lib.ListN.{length}
-use Rattle.scan.specs.Class.{run}
-use Rattle.scan.proofs.Runs.{run_stop, run_more, run_end}
+use mathlib.Core.Path.{sym, ◌∙◌, ap}
+use Rattle.scan.proofs.Runs.{run_stop, run_more}
+use Rattle.scan.proofs.Ends.{reached, run_ends, run_out}
 use Rattle.scan.proofs.run_end.Goals as goal
 
 pub returns-then-not-in_class : goal.returns-then-not-in_class
-returns-then-not-in_class c = (sym (c.loop-i.invariant.0 ∙ run_stop _ _ _ c.loop-i-test.true c.in_class.ensures (ap not c.if-not-in_class.true)), search rules, search rules)
+returns-then-not-in_class c =
+    reached (sym (c.loop-i.invariant ∙ run_stop _ _ _ c.loop-i-test.true c.in_class.ensures (ap not c.if-not-in_class.true))) (run_ends _ _ _)
 
 pub loop-i-preserved : goal.loop-i-preserved
-loop-i-preserved c = (c.loop-i.invariant.0 ∙ run_more _ _ _ c.loop-i-test.true c.in_class.ensures (ap not c.if-not-in_class.false), search rules, search rules)
+loop-i-preserved c = c.loop-i.invariant ∙ run_more _ _ _ c.loop-i-test.true c.in_class.ensures (ap not c.if-not-in_class.false)
 
 pub returns : goal.returns
-returns c = (sym (c.loop-i.invariant.0 ∙ run_end _ _ _ c.loop-i-test.false), search rules, search rules)
+returns c = reached (run_out _ _ _ _ c.loop-i.invariant c.loop-i-test.false c.loop-i.auto.i-end c.max.ensures) (run_ends _ _ _)

@@ -1,39 +1,31 @@
-use borrow.Author.Rules.{rules}
-use Prim.Native.Nat.{◌+◌, ◌-◌, ◌≤◌}
-use mathlib.Core.Path.{◌≡◌}
-use mathlib.Core.Bool.{false}
-use mathlib.Core.Option.{some}
-use native.Mathlib.Omega.{arith}
-use lib.ListN.{length}
-use Rattle.record.specs.Record.{records}
-use Rattle.record.proofs.Reach as reach
-use Rattle.instance.specs.Value.{elements}
-use Rattle.value.specs.Item.{item_value}
-use Rattle.place.specs.Place.{elements_of}
-use Rattle.search.specs.Search.{besides, searched}
+use Rattle.std.proofs.Common.{rules, ◌≡◌}
+use Rattle.record.specs.Record.{broken, ended}
+use Rattle.record.specs.Walked.{left, Passes}
 use Rattle.search.proofs.Searching as law
 use Rattle.search.proofs.search_records.Goals as goal
 
-pub loop-kind-init : goal.loop-kind-init
-loop-kind-init c = (law.search_start _ _ _ _ _, search rules)
+pub loop-record-init : goal.loop-record-init
+loop-record-init c = (search (rules, law.search_start), search rules, search rules)
 
-pub overflow_add-result : goal.overflow_add-result
-overflow_add-result c = let m = law.step_room _ _ c.record_at.ensures c.in-Whole.is _ c.loop-kind.invariant.1 in omega arith
-
-pub overflow_add-n : goal.overflow_add-n
-overflow_add-n c = let m = law.step_room _ _ c.record_at.ensures c.in-Whole.is _ c.loop-kind.invariant.1 in omega arith
-
-pub loop-kind-smaller : goal.loop-kind-smaller
-loop-kind-smaller c = search reach.step_less
-
-pub loop-kind-preserved : goal.loop-kind-preserved
-loop-kind-preserved c = (search law.search_next, search law.step_counts)
+pub loop-record-preserved : goal.loop-record-preserved
+loop-record-preserved c =
+    let p : Passes c.loop-record.record-iterator c.in-Ok.record c.next.new.self = search rules in (
+      law.search_next _ _ _ _ _ _ _ _ c.loop-record.invariant.0 _ _ _ _ _ p.walked _ c.holds_in.ensures _ c.decides.ensures (search rules),
+      search rules,
+      search rules,
+    )
 
 pub returns-then-decides : goal.returns-then-decides
-returns-then-decides c = search law.search_decided
+returns-then-decides c =
+    let p : Passes c.loop-record.record-iterator c.in-Ok.record c.next.new.self = search rules in
+    law.search_decided _ _ _ _ _ _ _ _ c.loop-record.invariant.0 _ _ _ _ _ p.walked _ c.holds_in.ensures _ c.decides.ensures (search rules)
 
-pub returns-in-Broken : goal.returns-in-Broken
-returns-in-Broken c = search law.search_broken
+pub returns-in_default : goal.returns-in_default
+returns-in_default c =
+    let f : left c.loop-record.record-iterator ≡ broken c.in_default.field-0 = search rules in
+    law.search_broken _ _ _ _ _ _ _ _ c.loop-record.invariant.0 _ c.undecided.ensures _ f
 
-pub returns-in-End : goal.returns-in-End
-returns-in-End c = search law.search_end
+pub returns : goal.returns
+returns c =
+    let f : left c.loop-record.record-iterator ≡ ended = search rules in
+    law.search_end _ _ _ _ _ _ _ _ c.loop-record.invariant.0 _ c.undecided-2.ensures f

@@ -3,7 +3,6 @@ use borrow.Author.Tests.{eq-eqb, ne_eqb}
 use Rattle.string_literal.specs.declared.InString.TheVariants.{Close}
 use Rattle.string_literal.specs.Char.{char_at}
 use Rattle.string_literal.proofs.Laws.{at_byte, with_within}
-use borrow.Author.Rules.{rules}
 use Rattle.string_literal.proofs.char_in_string.Goals as goal
 
 pub returns-then-b-eq39 : goal.returns-then-b-eq39

@@ -1,12 +1,8 @@
 use borrow.Author.Rules.{rules}
-use Prim.Native.Nat.{◌≤◌, ◌-◌}
-use mathlib.Core.Path.{◌≡◌, refl}
-use mathlib.Core.List.{◌++◌}
+use mathlib.Core.Path.{refl}
 use native.Mathlib.Omega.{arith}
-use lib.ListN.{length, take}
-use Rattle.string_literal.specs.Text.{text_at, characters_of}
 use Rattle.string_literal.proofs.Laws.{moved}
-use Rattle.string_literal.proofs.Filling.{next_character, at_close, at_bad, at_past, all_in, too_many, step_in}
+use Rattle.string_literal.proofs.Filling.{next_character, at_end, at_past, all_in, too_many, step_in}
 use Rattle.string_literal.proofs.fill.Goals as goal
 
 pub loop-i-init : goal.loop-i-init
@@ -22,10 +18,7 @@ pub loop-i-preserved : goal.loop-i-preserved
 loop-i-preserved c = (step_in _ _ _ c.loop-i.out c.loop-i.n _ c.char_in_string.ensures.0 c.in-Character.is c.loop-i.invariant.0 c.loop-i.invariant.2 (omega arith), search rules, search rules)
 
 pub returns-in-Close : goal.returns-in-Close
-returns-in-Close c = all_in _ _ _ _ c.loop-i.invariant.0 _ c.loop-i.invariant.2 c.loop-i.invariant.1 (at_close _ _ c.char_in_string.ensures.0 c.in-Close.is)
-
-pub returns-in-Bad : goal.returns-in-Bad
-returns-in-Bad c = all_in _ _ _ _ c.loop-i.invariant.0 _ c.loop-i.invariant.2 c.loop-i.invariant.1 (at_bad _ _ c.char_in_string.ensures.0 c.in-Bad.is)
+returns-in-Close c = all_in _ _ _ _ c.loop-i.invariant.0 _ c.loop-i.invariant.2 c.loop-i.invariant.1 (at_end _ _ c.char_in_string.ensures.0 c.in-Close.is)
 
 pub returns : goal.returns
 returns c = all_in _ _ _ _ c.loop-i.invariant.0 _ c.loop-i.invariant.2 c.loop-i.invariant.1 (at_past _ _ c.loop-i-test.false)

@@ -1,12 +1,8 @@
-use borrow.Author.Rules.{rules}
 use Prim.Native.Nat.{◌≤◌, ◌-◌}
-use mathlib.Core.Path.{◌≡◌, refl}
+use mathlib.Core.Path.{◌≡◌}
 use mathlib.Core.List.{◌++◌}
-use native.Mathlib.Omega.{arith}
 use lib.ListN.{length, take}
 use Rattle.string_literal.specs.Text.{text_at, characters_of}
-use Rattle.string_literal.proofs.Laws.{moved}
-use Rattle.string_literal.proofs.Filling.{next_character, at_close, at_bad, at_past, all_in, too_many, step_in}
 use Rattle.string_literal.proofs.fill.Given as goal
 
 abbrev pub invariant-loop-i : goal.invariant-loop-i

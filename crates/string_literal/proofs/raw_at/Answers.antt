@@ -4,14 +4,13 @@ use Rattle.encoding.specs.Scalar.{scalar_at}
 use Rattle.encoding.proofs.WellFormed.{sequence_fits}
 use Rattle.string_literal.specs.Char.{raw_at}
 use Rattle.string_literal.proofs.Ascii.{ascii_within, ascii_raw}
-use borrow.Author.Rules.{rules}
 use Rattle.string_literal.proofs.raw_at.Goals as goal
 
 pub overflow_add-result : goal.overflow_add-result
 overflow_add-result c = omega (arith, ascii_within c.args.q.now c.args.at c.byte_at-b.ensures c.if-b.true)
 
 pub returns-then-b : goal.returns-then-b
-returns-then-b c = ascii_raw c.args.q.now c.args.at c.byte_at-b.ensures c.if-b.true
+returns-then-b c = rw c.from.ensures (ascii_raw c.args.q.now c.args.at c.byte_at-b.ensures c.if-b.true)
 
 pub returns-then-n-eq0 : goal.returns-then-n-eq0
 unfolding raw_at

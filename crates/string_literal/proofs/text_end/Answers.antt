@@ -1,9 +1,6 @@
 use borrow.Author.Rules.{rules}
-use Prim.Native.Nat.{◌≤◌, ◌-◌}
-use mathlib.Core.Path.{◌≡◌, refl, sym, ◌∙◌}
+use mathlib.Core.Path.{refl, sym, ◌∙◌}
 use native.Mathlib.Omega.{arith}
-use lib.ListN.{length}
-use Rattle.string_literal.specs.Text.{text_at, end_or}
 use Rattle.string_literal.proofs.Laws.{moved, end_step, end_close, end_bad, end_plain, end_past}
 use Rattle.string_literal.proofs.text_end.Goals as goal
 

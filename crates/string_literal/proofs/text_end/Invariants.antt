@@ -1,10 +1,7 @@
-use borrow.Author.Rules.{rules}
 use Prim.Native.Nat.{◌≤◌, ◌-◌}
-use mathlib.Core.Path.{◌≡◌, refl, sym, ◌∙◌}
-use native.Mathlib.Omega.{arith}
+use mathlib.Core.Path.{◌≡◌}
 use lib.ListN.{length}
 use Rattle.string_literal.specs.Text.{text_at, end_or}
-use Rattle.string_literal.proofs.Laws.{moved, end_step, end_close, end_bad, end_plain, end_past}
 use Rattle.string_literal.proofs.text_end.Given as goal
 
 abbrev pub invariant-loop-i : goal.invariant-loop-i

@@ -15,7 +15,7 @@ pub read_value-requires : goal.read_value-requires
 read_value-requires c = let h = hex_run_fits c.args.q.now c.args.at in (omega (arith, c.hex_run-n.ensures), search rules, search rules, search rules)
 
 pub overflow_cast-c : goal.overflow_cast-c
-overflow_cast-c c = omega (arith, fits_limit _ _ c.read_value.ensures _ c.in-Fits.is)
+overflow_cast-c c = omega (arith, fits_limit _ _ c.read_value.ensures _ c.in-Some.is)
 
 pub overflow_add-result : goal.overflow_add-result
 overflow_add-result c = omega (arith, hex_run_fits c.args.q.now c.args.at, c.hex_run-n.ensures)
@@ -23,8 +23,8 @@ overflow_add-result c = omega (arith, hex_run_fits c.args.q.now c.args.at, c.hex
 pub returns-then-is_scalar_value : goal.returns-then-is_scalar_value
 returns-then-is_scalar_value c = search escape_scalar
 
-pub returns-else-is_scalar_value : goal.returns-else-is_scalar_value
-returns-else-is_scalar_value c = search escape_surrogate
+pub returns : goal.returns
+returns c = search escape_surrogate
 
-pub returns-in-TooLarge : goal.returns-in-TooLarge
-returns-in-TooLarge c = search escape_beyond
+pub returns-in_default : goal.returns-in_default
+returns-in_default c = search escape_beyond

@@ -1,5 +1,4 @@
 use Rattle.base.proofs.Lists.{byte_past}
-use borrow.Author.Rules.{rules}
 use Rattle.base.proofs.bytes.byte_at.Goals as goal
 
 pub returns : goal.returns

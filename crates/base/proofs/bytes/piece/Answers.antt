@@ -1,5 +1,4 @@
 use Rattle.base.proofs.Lists.{part_past, part_rest, part_whole}
-use borrow.Author.Rules.{rules}
 use Rattle.base.proofs.bytes.piece.Goals as goal
 
 pub returns-then-s-start : goal.returns-then-s-start

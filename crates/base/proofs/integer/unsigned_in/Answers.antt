@@ -1,7 +1,6 @@
 use mathlib.Core.Path.{ap, ◌∙◌}
 use Rattle.base.specs.LittleEndian.{unsigned}
 use Rattle.base.proofs.Lists.{part_short}
-use borrow.Author.Rules.{rules}
 use Rattle.base.proofs.integer.unsigned_in.Goals as goal
 
 pub unsigned_of-requires : goal.unsigned_of-requires

@@ -1,26 +1,22 @@
-use borrow.Author.Rules.{rules}
 use Rattle.base.proofs.LittleEndian.{unsigned_next, one_more_law, room}
 use Rattle.base.specs.LittleEndian.{unsigned}
 use native.Mathlib.Omega.{arith}
-use native.Mathlib.Nat.{sub_self, sub-zero}
+use native.Mathlib.Nat.{sub_self}
 use lib.Seq.{drop-length}
-use lib.ListN.{length, drop}
+use lib.ListN.{length}
 use mathlib.Core.Path.{◌≡◌, sym, ap}
-use Prim.Native.Nat.{suc, ◌+◌, ◌≤◌, ◌-◌, ◌<◌, ◌^◌}
+use Prim.Native.Nat.{suc, ◌+◌, ◌-◌}
 use Rattle.base.proofs.integer.unsigned_of.Goals as goal
-
-pub returns-then-s-eq8 : goal.returns-then-s-eq8
-returns-then-s-eq8 c = (c.word_of.ensures.0, rw c.if-s-eq8.true c.word_of.ensures.1)
 
 pub loop-i-init : goal.loop-i-init
 unfolding unsigned
-loop-i-init c = (omega arith, sym (ap unsigned (drop-length c.args.s.now)), simp (sub_self (length c.args.s.now)) (omega arith))
+loop-i-init c = (sym (ap unsigned (drop-length c.args.s.now)), simp (sub_self (length c.args.s.now)) (omega arith))
 
 pub overflow_mul-v : goal.overflow_mul-v
 overflow_mul-v c = omega (arith, room (length c.args.s.now - c.loop-i.i) 7 (omega arith))
 
 pub overflow_add-v : goal.overflow_add-v
-overflow_add-v c = omega (arith, room (length c.args.s.now - c.loop-i.i) 7 (omega arith))
+overflow_add-v c = omega (arith, room (length c.args.s.now - c.loop-i.i) 7 (omega arith), c.from.ensures, (c.type_inv.s (c.loop-i.i - 1)).fits)
 
 pub loop-i-preserved : goal.loop-i-preserved
 loop-i-preserved c = let s = c.args.s.now in
@@ -28,8 +24,4 @@ loop-i-preserved c = let s = c.args.s.now in
     let e : i - 1 + 1 ≡ i = omega arith in
     let k : length s - (i - 1) ≡ suc (length s - i) = omega arith in
     let n = rw e at (unsigned_next s (i - 1) (omega arith)) in
-    (omega arith, omega (arith, n), rw k (one_more_law _ _ _ c.loop-i.invariant.2 c.widen.ensures.1))
-
-pub returns : goal.returns
-returns c = let z : c.loop-i.i ≡ 0 = omega arith in
-    (rw z at c.loop-i.invariant.1, rw (z, sub-zero (length c.args.s.now)) at c.loop-i.invariant.2)
+    (omega (arith, n, c.from.ensures), rw k (one_more_law _ _ _ c.loop-i.invariant.1 (omega (arith, c.from.ensures, (c.type_inv.s (i - 1)).fits))))

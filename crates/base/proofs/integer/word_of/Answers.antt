@@ -1,6 +1,5 @@
 use native.Mathlib.Omega.{arith}
 use Rattle.base.proofs.LittleEndian.{eight_bytes}
-use borrow.Author.Rules.{rules}
 use Rattle.base.proofs.integer.word_of.Goals as goal
 
 pub returns : goal.returns

@@ -7,8 +7,8 @@ use Rattle.conjunction.proofs.group.next_term.Goals as goal
 pub loop-op-init : goal.loop-op-init
 loop-op-init c = law.search_begins
 
-pub returns-in-NoBoolOp : goal.returns-in-NoBoolOp
-returns-in-NoBoolOp c = search law.found_none
+pub returns-in-None : goal.returns-in-None
+returns-in-None c = search law.found_none
 
 pub returns-in-Or : goal.returns-in-Or
 returns-in-Or c = search law.found_term

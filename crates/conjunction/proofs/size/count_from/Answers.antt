@@ -11,8 +11,8 @@ use Rattle.conjunction.proofs.size.count_from.Goals as goal
 pub loop-read-init : goal.loop-read-init
 loop-read-init c = law.further_none _
 
-pub returns-in-NoNext : goal.returns-in-NoNext
-returns-in-NoNext c = search law.counted_bad
+pub returns-in_default : goal.returns-in_default
+returns-in_default c = search law.counted_bad
 
 pub returns-then-is_last : goal.returns-then-is_last
 returns-then-is_last c = search law.counted_last

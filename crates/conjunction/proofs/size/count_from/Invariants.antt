@@ -10,6 +10,3 @@ use Rattle.conjunction.proofs.size.count_from.Given as goal
 
 abbrev pub invariant-loop-read : goal.invariant-loop-read
 invariant-loop-read l = comparisons (query_from 64 (scan l.q) l.grouped l.initial.token) ≡ further l.read (query_from (64 - l.read) (scan l.q) l.grouped l.token)
-
-abbrev pub decreases-loop-read : goal.decreases-loop-read
-decreases-loop-read l = 64 - l.read

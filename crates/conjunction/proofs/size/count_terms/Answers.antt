@@ -12,11 +12,11 @@ use Rattle.conjunction.proofs.size.count_terms.Goals as goal
 pub loop-next-init : goal.loop-next-init
 loop-next-init c = search law.terms_begin
 
-pub returns-in-NoTerm : goal.returns-in-NoTerm
-returns-in-NoTerm c = search law.terms_all
+pub returns : goal.returns
+returns c = search law.terms_all
 
 pub overflow_add-terms : goal.overflow_add-terms
-overflow_add-terms c = let m = law.terms_fit _ _ _ c.loop-next.invariant c.next_term.ensures _ c.in-Term.is c.requires in omega arith
+overflow_add-terms c = let m = law.terms_fit _ _ _ c.loop-next.invariant c.next_term.ensures _ c.in-Some.is c.requires in omega arith
 
 pub loop-next-smaller : goal.loop-next-smaller
 loop-next-smaller c = search reading.term_nearer

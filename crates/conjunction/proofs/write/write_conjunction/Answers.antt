@@ -10,11 +10,11 @@ use Rattle.conjunction.proofs.write.write_conjunction.Goals as goal
 pub loop-next-init : goal.loop-next-init
 loop-next-init c = search law.products_begin
 
-pub shape_of-out-in-NoTerm : goal.shape_of-out-in-NoTerm
-shape_of-out-in-NoTerm c = search law.writing_same
+pub shape_of-out-in_default : goal.shape_of-out-in_default
+shape_of-out-in_default c = search law.writing_same
 
-pub returns-in-NoTerm : goal.returns-in-NoTerm
-returns-in-NoTerm c = search law.products_done
+pub returns-in_default : goal.returns-in_default
+returns-in_default c = search law.products_done
 
 pub loop-next-smaller : goal.loop-next-smaller
 loop-next-smaller c = search reading.term_nearer

@@ -10,11 +10,11 @@ use Rattle.conjunction.proofs.write.write_term.Goals as goal
 pub loop-op-init : goal.loop-op-init
 loop-op-init c = law.writing_begins
 
-pub shape_of-out-in-NoBoolOp : goal.shape_of-out-in-NoBoolOp
-shape_of-out-in-NoBoolOp c = search law.writing_same
+pub shape_of-out-in-None : goal.shape_of-out-in-None
+shape_of-out-in-None c = search law.writing_same
 
-pub returns-in-NoBoolOp : goal.returns-in-NoBoolOp
-returns-in-NoBoolOp c = search law.term_done
+pub returns-in-None : goal.returns-in-None
+returns-in-None c = search law.term_done
 
 pub shape_of-out-in-Or : goal.shape_of-out-in-Or
 shape_of-out-in-Or c = search law.writing_same

@@ -1,7 +1,6 @@
 use Prim.Native.Nat.{◌%◌}
 use native.Mathlib.Omega.{arith}
 use Rattle.datetime.proofs.Years.{days_by_cycle, leap_years_le}
-use borrow.Author.Rules.{rules}
 use Rattle.datetime.proofs.calendar.days_before_year.Goals as goal
 
 pub overflow_add-result : goal.overflow_add-result

@@ -1,5 +1,4 @@
 use Rattle.datetime.proofs.Reading as law
-use borrow.Author.Rules.{rules}
 use Rattle.datetime.proofs.read.is_datetime.Goals as goal
 
 pub returns-then-is_exact : goal.returns-then-is_exact

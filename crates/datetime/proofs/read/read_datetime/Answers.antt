@@ -1,28 +1,16 @@
 use mathlib.Core.Bool.{not}
 use mathlib.Core.Path.{ap}
 use native.Mathlib.Omega.{arith}
-use Rattle.datetime.proofs.Bounds.{shape_of}
-use Rattle.datetime.proofs.Laws.{exact_shaped}
 use Rattle.datetime.proofs.Known.{known_most}
 use Rattle.datetime.proofs.Highest.{text_long}
 use Rattle.datetime.proofs.Reading as law
-use borrow.Author.Rules.{rules}
 use Rattle.datetime.proofs.read.read_datetime.Goals as goal
-
-pub microseconds_in-moment-requires : goal.microseconds_in-moment-requires
-microseconds_in-moment-requires c = law.is_exact _ c.is_exact.ensures c.if-is_exact.true
-
-pub bounds-s-21 : goal.bounds-s-21
-bounds-s-21 c = (shape_of _ (exact_shaped _ (law.is_exact _ c.is_exact.ensures c.if-is_exact.true))).sign
 
 pub returns-then-is_exact : goal.returns-then-is_exact
 returns-then-is_exact c = law.exact_read _ c.is_exact.ensures c.if-is_exact.true c.microseconds_in-moment.ensures c.sort_by_sign.ensures
 
 pub returns-then-not-is_starred : goal.returns-then-not-is_starred
 returns-then-not-is_starred c = law.says_nothing _ c.is_starred.ensures (ap not c.if-not-is_starred.true)
-
-pub span_in-span-requires : goal.span_in-span-requires
-span_in-span-requires c = law.says_so _ c.is_starred.ensures (ap not c.if-not-is_starred.false)
 
 pub bounds-s-21-2 : goal.bounds-s-21-2
 bounds-s-21-2 c = omega (arith, text_long _ _ (known_most _) (law.says_so _ c.is_starred.ensures (ap not c.if-not-is_starred.false)))

@@ -1,5 +1,4 @@
 use Rattle.datetime.proofs.Stars as law
-use borrow.Author.Rules.{rules}
 use Rattle.datetime.proofs.unknown.fill_lowest.Goals as goal
 
 pub returns-then-s-eq58 : goal.returns-then-s-eq58

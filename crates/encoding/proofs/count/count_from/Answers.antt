@@ -1,14 +1,8 @@
-use borrow.Author.Rules.{rules}
 use Rattle.encoding.proofs.Counting as law
 use Rattle.encoding.proofs.Counting.{Counted}
 use Rattle.encoding.proofs.WellFormed.{sequence_fits}
 use native.Mathlib.Omega.{arith}
-use lib.ListN.{length}
-use Prim.Native.Nat.{◌-◌}
 use Rattle.encoding.proofs.count.count_from.Goals as goal
-
-pub loop-next-init : goal.loop-next-init
-loop-next-init c = search law.counted_start
 
 pub returns-then-n-eq0 : goal.returns-then-n-eq0
 returns-then-n-eq0 c = search law.counted_stop

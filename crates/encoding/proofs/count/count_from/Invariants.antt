@@ -1,8 +1,4 @@
-use borrow.Author.Rules.{rules}
-use Rattle.encoding.proofs.Counting as law
 use Rattle.encoding.proofs.Counting.{Counted}
-use Rattle.encoding.proofs.WellFormed.{sequence_fits}
-use native.Mathlib.Omega.{arith}
 use lib.ListN.{length}
 use Prim.Native.Nat.{◌-◌}
 use Rattle.encoding.proofs.count.count_from.Given as goal

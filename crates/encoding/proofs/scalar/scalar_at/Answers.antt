@@ -1,5 +1,4 @@
 use Rattle.encoding.specs.Scalar.{scalar_at}
-use borrow.Author.Rules.{rules}
 use Rattle.encoding.proofs.scalar.scalar_at.Goals as goal
 
 pub returns : goal.returns

@@ -1,7 +1,6 @@
 use Rattle.encoding.proofs.WellFormed as law
 use native.Mathlib.Omega.{arith}
 use mathlib.Core.Bool.{true, false}
-use borrow.Author.Rules.{rules}
 use Rattle.encoding.proofs.sequence.four_at.Goals as goal
 
 pub returns-then-s-at-ge245 : goal.returns-then-s-at-ge245
@@ -13,5 +12,5 @@ returns-then-s-at-lt4 c = law.four_short _ _ c.requires.0 c.requires.1 c.require
 pub returns-then-is_second-is_continuation : goal.returns-then-is_second-is_continuation
 returns-then-is_second-is_continuation c = law.four_by _ _ c.requires.0 c.requires.1 c.requires.2 c.if-s-at-ge245.false c.if-s-at-lt4.false {t = true} c.is_second.ensures c.is_continuation.ensures c.is_continuation-2.ensures c.if-is_second-is_continuation.true
 
-pub returns : goal.returns
-returns c = law.four_by _ _ c.requires.0 c.requires.1 c.requires.2 c.if-s-at-ge245.false c.if-s-at-lt4.false {t = false} c.is_second.ensures c.is_continuation.ensures c.is_continuation-2.ensures c.if-is_second-is_continuation.false
+pub returns-else-is_second-is_continuation : goal.returns-else-is_second-is_continuation
+returns-else-is_second-is_continuation c = law.four_by _ _ c.requires.0 c.requires.1 c.requires.2 c.if-s-at-ge245.false c.if-s-at-lt4.false {t = false} c.is_second.ensures c.is_continuation.ensures c.is_continuation-2.ensures c.if-is_second-is_continuation.false

@@ -1,6 +1,4 @@
 use Rattle.encoding.proofs.WellFormed as law
-use native.Mathlib.Omega.{arith}
-use borrow.Author.Rules.{rules}
 use Rattle.encoding.proofs.sequence.sequence_at.Goals as goal
 
 pub returns-then-s-at : goal.returns-then-s-at
@@ -8,6 +6,3 @@ returns-then-s-at c = search law.past_end
 
 pub returns-then-b-lt128 : goal.returns-then-b-lt128
 returns-then-b-lt128 c = search law.one_at
-
-pub four_at-requires : goal.four_at-requires
-four_at-requires c = (omega arith, omega arith, omega (arith, c.shared_slice_known-2-1.given c.args.at))

@@ -1,7 +1,6 @@
 use Rattle.encoding.proofs.WellFormed as law
 use native.Mathlib.Omega.{arith}
 use mathlib.Core.Bool.{true, false}
-use borrow.Author.Rules.{rules}
 use Rattle.encoding.proofs.sequence.two_at.Goals as goal
 
 pub returns-then-s-at-lt194 : goal.returns-then-s-at-lt194
@@ -13,5 +12,5 @@ returns-then-s-at-lt2 c = law.two_short _ _ c.requires.0 c.requires.1 c.requires
 pub returns-then-is_continuation : goal.returns-then-is_continuation
 returns-then-is_continuation c = law.two_by _ _ c.requires.0 c.requires.1 c.requires.2 c.if-s-at-lt194.false c.if-s-at-lt2.false {t = true} c.is_continuation.ensures c.if-is_continuation.true
 
-pub returns : goal.returns
-returns c = law.two_by _ _ c.requires.0 c.requires.1 c.requires.2 c.if-s-at-lt194.false c.if-s-at-lt2.false {t = false} c.is_continuation.ensures c.if-is_continuation.false
+pub returns-else-is_continuation : goal.returns-else-is_continuation
+returns-else-is_continuation c = law.two_by _ _ c.requires.0 c.requires.1 c.requires.2 c.if-s-at-lt194.false c.if-s-at-lt2.false {t = false} c.is_continuation.ensures c.if-is_continuation.false

@@ -1,5 +1,4 @@
 use Rattle.encoding.proofs.Blocks as law
-use borrow.Author.Rules.{rules}
 use Rattle.encoding.proofs.text.check_utf8.Goals as goal
 
 pub returns-then-s-start : goal.returns-then-s-start

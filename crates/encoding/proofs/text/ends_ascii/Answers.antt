@@ -1,6 +1,5 @@
 use native.Mathlib.Omega.{arith}
 use Rattle.encoding.proofs.Blocks as law
-use borrow.Author.Rules.{rules}
 use Rattle.encoding.proofs.text.ends_ascii.Goals as goal
 
 pub returns-then-n-ge16 : goal.returns-then-n-ge16
@@ -11,6 +10,3 @@ returns-then-n-ge8 c = law.ends_two _ _ 8 (omega arith) (omega arith) c.all_asci
 
 pub returns-then-n-ge4 : goal.returns-then-n-ge4
 returns-then-n-ge4 c = law.ends_two _ _ 4 (omega arith) (omega arith) c.all_ascii-then-n-ge4.ensures c.all_ascii-then-n-ge4-2.ensures
-
-pub returns : goal.returns
-returns c = law.ends_untold _ _

@@ -1,8 +1,6 @@
-use borrow.Author.Rules.{rules}
 use Prim.Native.Nat.{◌-◌, ◌≤◌}
 use lib.ListN.{length}
-use Rattle.encoding.specs.Blocks.{Reaches, here}
-use Rattle.encoding.proofs.Blocks as law
+use Rattle.encoding.specs.Blocks.{Reaches}
 use Rattle.encoding.proofs.text.pass_ascii.Given as goal
 
 abbrev pub invariant-loop-next : goal.invariant-loop-next

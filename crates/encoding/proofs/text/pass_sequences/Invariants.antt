@@ -1,8 +1,5 @@
-use borrow.Author.Rules.{rules}
 use Prim.Native.Nat.{◌-◌, ◌≤◌}
-use native.Mathlib.Omega.{arith}
-use Rattle.encoding.specs.Blocks.{Reaches, here}
-use Rattle.encoding.proofs.Blocks as law
+use Rattle.encoding.specs.Blocks.{Reaches}
 use Rattle.encoding.proofs.text.pass_sequences.Given as goal
 
 abbrev pub invariant-loop-next : goal.invariant-loop-next

@@ -1,6 +1,5 @@
 use borrow.Author.Rules.{rules}
-use Prim.Native.Nat.{◌-◌, ◌≤◌}
-use Rattle.encoding.specs.Blocks.{Reaches, here}
+use Rattle.encoding.specs.Blocks.{here}
 use Rattle.encoding.proofs.Blocks as law
 use Rattle.encoding.proofs.text.pass_text.Goals as goal
 
@@ -9,9 +8,6 @@ loop-next-init c = (search rules, (search rules, here))
 
 pub returns-then-then-next : goal.returns-then-then-next
 returns-then-then-next c = search law.walk_stays
-
-pub loop-next-smaller : goal.loop-next-smaller
-loop-next-smaller c = search law.walk_moves
 
 pub loop-next-preserved : goal.loop-next-preserved
 loop-next-preserved c = (search law.walk_begins, (search law.walk_within, search law.walk_next))

@@ -1,5 +1,4 @@
 use Rattle.encoding.proofs.WholeSequences as law
-use borrow.Author.Rules.{rules}
 use Rattle.encoding.proofs.whole.pass_whole.Goals as goal
 
 pub returns-then-is_continuation : goal.returns-then-is_continuation

@@ -1,9 +1,7 @@
-use borrow.Author.Rules.{rules}
 use Prim.Native.Nat.{◌-◌, ◌≤◌, ◌<◌}
 use mathlib.Core.Bool.{true}
 use mathlib.Core.Path.{◌≡◌}
 use Rattle.encoding.specs.Blocks.{all_whole}
-use Rattle.encoding.proofs.WholeSequences as law
 use Rattle.encoding.proofs.whole.whole_blocks.Given as goal
 
 abbrev pub invariant-loop-end : goal.invariant-loop-end

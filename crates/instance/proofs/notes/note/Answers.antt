@@ -1,6 +1,5 @@
-use lib.Seq.{set_out}
-use mathlib.Core.Path.{sym}
-use borrow.Author.Rules.{rules}
+use Rattle.std.proofs.Common.{sym}
+use Rattle.std.proofs.Math.Seq.{set_out}
 use Rattle.instance.proofs.notes.note.Goals as goal
 
 pub returns-else-number-notes : goal.returns-else-number-notes

@@ -2,11 +2,11 @@ use Rattle.judge.proofs.Sides as law
 use borrow.Author.Rules.{rules}
 use Rattle.judge.proofs.left.left_scalar.Goals as goal
 
-pub returns-in-Whole : goal.returns-in-Whole
-returns-in-Whole c = search law.scalar_one
+pub returns-in-None : goal.returns-in-None
+returns-in-None c = search law.scalar_one
 
-pub returns-in-At : goal.returns-in-At
-returns-in-At c = search law.scalar_indexed
+pub returns-in-Some : goal.returns-in-Some
+returns-in-Some c = search law.scalar_indexed
 
 pub returns-in-Any : goal.returns-in-Any
 returns-in-Any c = search law.scalar_any

@@ -6,4 +6,4 @@ pub returns-then-is_equality-same : goal.returns-then-is_equality-same
 returns-then-is_equality-same c = search law.bodies_told
 
 pub returns : goal.returns
-returns c = search law.bodies_row
+returns c = rw c.at.ensures (search law.bodies_row)

@@ -1,15 +1,12 @@
 use Rattle.judge.proofs.Meeting as law
 use borrow.Author.Rules.{rules}
+use Rattle.judge.specs.Meaning.{meet}
+use Rattle.judge.specs.Answers.{judged, left_seen}
 use Rattle.judge.proofs.meet.meet_elements.Goals as goal
-
-pub returns-in-Misshapen : goal.returns-in-Misshapen
-returns-in-Misshapen c = search law.many_misshapen
-
-pub returns-in-One : goal.returns-in-One
-returns-in-One c = search law.many_one
 
 pub returns-in-Many : goal.returns-in-Many
 returns-in-Many c = search law.many_many
 
-pub returns-in-Each : goal.returns-in-Each
-returns-in-Each c = search law.many_each
+pub returns-in_default : goal.returns-in_default
+unfolding judged meet left_seen
+returns-in_default c = rw c.at.ensures (search rules)

@@ -4,10 +4,8 @@ use Rattle.operand.specs.Element.{elements_from, element_tokens}
 use Rattle.judge.specs.Meaning.{elements}
 use Rattle.judge.specs.Answers.{list_read, list_before}
 use mathlib.Core.Path.{◌≡◌}
+use Prim.Native.Nat.{◌-◌}
 use Rattle.judge.proofs.right.check_elements.Given as goal
 
-abbrev pub invariant-loop-left : goal.invariant-loop-left
-invariant-loop-left l = list_read (elements l.family l.q (element_tokens l.q l.start l.count)) ≡ list_before l.seen (list_read (elements l.family l.q (elements_from l.q l.t l.left)))
-
-abbrev pub decreases-loop-left : goal.decreases-loop-left
-decreases-loop-left l = l.left
+abbrev pub invariant-loop-before : goal.invariant-loop-before
+invariant-loop-before l = list_read (elements l.family l.q (element_tokens l.q l.start l.count)) ≡ list_before l.seen (list_read (elements l.family l.q (elements_from l.q l.t (l.count - l._before))))

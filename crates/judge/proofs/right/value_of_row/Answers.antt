@@ -5,8 +5,8 @@ use Rattle.judge.proofs.right.value_of_row.Goals as goal
 pub returns-then-not-same : goal.returns-then-not-same
 returns-then-not-same c = search law.row_unlike
 
-pub returns-in-TooLarge : goal.returns-in-TooLarge
-returns-in-TooLarge c = search law.row_large
+pub returns-in-Ok : goal.returns-in-Ok
+returns-in-Ok c = search law.row_value
 
-pub returns-in-At : goal.returns-in-At
-returns-in-At c = search law.row_value
+pub returns-in-Err : goal.returns-in-Err
+returns-in-Err c = rw c.at.ensures (search law.row_large)

@@ -1,41 +1,38 @@
-use borrow.Author.Rules.{rules}
-use Prim.Native.Nat.{◌-◌}
-use mathlib.Core.Path.{◌≡◌}
+use Rattle.std.proofs.Common.{rules, inl, ◌≡◌}
 use native.Mathlib.Omega.{arith}
-use lib.ListN.{length}
-use Rattle.record.specs.Record.{records}
-use Rattle.record.proofs.Reach as reach
-use Rattle.run.specs.Run.{bodies_of, instances_of}
+use Rattle.record.specs.Record.{broken, ended}
+use Rattle.record.specs.Walked.{left, Passes}
 use Rattle.mark.proofs.Marking as law
-use Rattle.mark.proofs.Marking.{Marking}
 use Rattle.mark.proofs.mark.mark_instances.Goals as goal
 
-pub loop-start-init : goal.loop-start-init
-loop-start-init c = (search law.marking_begins, search rules)
+pub loop-number-init-derived : goal.loop-number-init-derived
+loop-number-init-derived c = ((tt, tt, inl (search rules)), tt)
 
-pub bounds-marks-i : goal.bounds-marks-i
-bounds-marks-i c = search law.marking_room
+pub loop-number-init : goal.loop-number-init
+loop-number-init c = (law.marking_begins _ _ _ _ c.requires.1 (search rules) (search rules), search rules)
+
+pub returns-in_default : goal.returns-in_default
+returns-in_default c =
+    let f : left c.loop-number.number-iterator.iter ≡ broken c.in_default.field-0 = search rules in
+    law.marking_broken _ _ _ _ _ _ _ _ c.loop-number.invariant.0 _ f
+
+pub bounds-marks-number : goal.bounds-marks-number
+bounds-marks-number c =
+    let p : Passes c.loop-number.number-iterator.iter c.in-Ok.record c.next.new.self.iter = search rules in
+    law.marking_room _ _ _ _ _ _ _ _ c.loop-number.invariant.0 _ _ _ _ _ p.walked (search rules)
 
 pub count_answer-totals-requires : goal.count_answer-totals-requires
-count_answer-totals-requires c = let m = law.marking_few _ _ _ _ _ _ _ _ c.loop-start.invariant.0 c.record_at.ensures c.in-Whole.is in omega arith
+count_answer-totals-requires c =
+    let p : Passes c.loop-number.number-iterator.iter c.in-Ok.record c.next.new.self.iter = search rules in
+    let m = law.marking_few _ _ _ _ _ _ _ _ c.loop-number.invariant.0 _ _ _ _ _ p.walked in
+    omega (arith, c.well_formed)
 
-pub overflow_add-i : goal.overflow_add-i
-overflow_add-i c = let m = law.marking_room _ _ _ _ _ _ _ _ c.loop-start.invariant.0 c.record_at.ensures c.in-Whole.is in omega (arith, c.well_formed)
+pub loop-number-preserved : goal.loop-number-preserved
+loop-number-preserved c =
+    let p : Passes c.loop-number.number-iterator.iter c.in-Ok.record c.next.new.self.iter = search rules in
+    (law.marking_next _ _ _ _ _ _ _ _ c.loop-number.invariant.0 _ _ _ _ _ p.walked c.body_in-instance.ensures c.evaluate_accepted-answer.ensures.0 c.mark_of.ensures c.count_answer-totals.ensures (search rules) (search rules), search rules)
 
-pub loop-start-smaller : goal.loop-start-smaller
-loop-start-smaller c = search reach.step_less
-
-pub loop-start-preserved : goal.loop-start-preserved
-loop-start-preserved c = (search law.marking_next, search rules)
-
-pub shape_of-marks-in-Broken : goal.shape_of-marks-in-Broken
-shape_of-marks-in-Broken c = search law.marking_same
-
-pub returns-in-Broken : goal.returns-in-Broken
-returns-in-Broken c = law.marking_broken _ _ _ _ _ _ _ _ c.loop-start.invariant.0 c.record_at.ensures c.in-Broken.is
-
-pub shape_of-marks-in-End : goal.shape_of-marks-in-End
-shape_of-marks-in-End c = search law.marking_same
-
-pub returns-in-End : goal.returns-in-End
-returns-in-End c = law.marking_end _ _ _ _ _ _ _ _ c.loop-start.invariant.0 c.record_at.ensures c.in-End.is
+pub returns : goal.returns
+returns c =
+    let f : left c.loop-number.number-iterator.iter ≡ ended = search rules in
+    law.marking_end _ _ _ _ _ _ _ _ c.loop-number.invariant.0 f

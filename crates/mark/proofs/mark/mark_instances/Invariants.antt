@@ -1,17 +1,9 @@
-use borrow.Author.Rules.{rules}
-use Prim.Native.Nat.{◌-◌}
-use mathlib.Core.Path.{◌≡◌}
-use native.Mathlib.Omega.{arith}
+use Rattle.std.proofs.Common.{◌≡◌}
 use lib.ListN.{length}
-use Rattle.record.specs.Record.{records}
-use Rattle.record.proofs.Reach as reach
+use Rattle.record.specs.Walked.{left}
 use Rattle.run.specs.Run.{bodies_of, instances_of}
-use Rattle.mark.proofs.Marking as law
 use Rattle.mark.proofs.Marking.{Marking}
 use Rattle.mark.proofs.mark.mark_instances.Given as goal
 
-abbrev pub invariant-loop-start : goal.invariant-loop-start
-invariant-loop-start l = Marking l.query l.table (instances_of l.run) (bodies_of l.run (records l.run l.at)) l.initial.marks l.i l.totals l.marks × (length l.notes ≡ 128)
-
-abbrev pub decreases-loop-start : goal.decreases-loop-start
-decreases-loop-start l = length l.run - l.at
+abbrev pub invariant-loop-number : goal.invariant-loop-number
+invariant-loop-number l = Marking l.query l.table (instances_of l.run) (bodies_of l.run (left l.number-iterator.iter)) l.initial.marks l.number-iterator.count l.totals l.marks × (length l.notes ≡ 128)

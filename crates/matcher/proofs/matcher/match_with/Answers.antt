@@ -1,10 +1,6 @@
-use borrow.Author.Rules.{rules}
 use Rattle.matcher.proofs.Texts as law
-use Rattle.matcher.proofs.Texts.{Matching}
 use Rattle.encoding.proofs.WellFormed.{sequence_fits}
 use native.Mathlib.Omega.{arith}
-use lib.ListN.{length}
-use Prim.Native.Nat.{◌-◌}
 use Rattle.matcher.proofs.matcher.match_with.Goals as goal
 
 pub loop-at-init : goal.loop-at-init
@@ -13,26 +9,14 @@ loop-at-init c = search law.matching_start
 pub returns-then-n-eq0 : goal.returns-then-n-eq0
 returns-then-n-eq0 c = law.matched_stop c.loop-at.invariant c.sequence_at-n.ensures c.if-n-eq0.true c.accepts.ensures
 
-pub hit_at-requires : goal.hit_at-requires
-hit_at-requires c = (c.loop-at-test.true, c.sequence_at-n.ensures, c.loop-at.invariant.memory)
-
 pub overflow_add-characters : goal.overflow_add-characters
 overflow_add-characters c = omega (arith, law.matching_fewer c.loop-at.invariant c.count_from.ensures)
-
-pub shape_of-memory-then-set-eq0 : goal.shape_of-memory-then-set-eq0
-shape_of-memory-then-set-eq0 c = omega (arith, c.hit_at.ensures.1.all, c.requires.1.all)
 
 pub returns-then-set-eq0 : goal.returns-then-set-eq0
 returns-then-set-eq0 c = law.matched_dead c.loop-at.invariant _ _ c.sequence_at-n.ensures c.if-n-eq0.false c.hit_at.ensures c.next_set-set.ensures c.if-set-eq0.true c.count_from.ensures
 
 pub overflow_add-at : goal.overflow_add-at
 overflow_add-at c = omega (arith, sequence_fits c.args.text.now c.loop-at.at, c.sequence_at-n.ensures)
-
-pub overflow_add-count : goal.overflow_add-count
-overflow_add-count c = omega (arith, c.loop-at.invariant.reached.fewer)
-
-pub step-live-requires : goal.step-live-requires
-step-live-requires c = (c.loop-at.invariant.tables.all, c.loop-at.invariant.recalls, c.loop-at.invariant.reached.kept)
 
 pub loop-at-smaller : goal.loop-at-smaller
 loop-at-smaller c = omega (arith, sequence_fits c.args.text.now c.loop-at.at, c.sequence_at-n.ensures, c.if-n-eq0.false)

@@ -1,8 +1,4 @@
-use borrow.Author.Rules.{rules}
-use Rattle.matcher.proofs.Texts as law
 use Rattle.matcher.proofs.Texts.{Matching}
-use Rattle.encoding.proofs.WellFormed.{sequence_fits}
-use native.Mathlib.Omega.{arith}
 use lib.ListN.{length}
 use Prim.Native.Nat.{◌-◌}
 use Rattle.matcher.proofs.matcher.match_with.Given as goal

@@ -1,5 +1,3 @@
-use borrow.Author.Rules.{rules}
-use Rattle.pattern.proofs.Scanned as law
 use Rattle.pattern.proofs.Scanned.{Scanning}
 use lib.ListN.{length}
 use Prim.Native.Nat.{◌-◌}

@@ -1,8 +1,4 @@
-use borrow.Author.Rules.{rules}
-use native.Mathlib.Omega.{arith}
-use Rattle.pattern.proofs.Gathering as law
 use Rattle.pattern.proofs.Gathering.{Gathering}
-use mathlib.Core.Path.{refl}
 use Rattle.pattern.proofs.links.gather.Given as goal
 
 abbrev pub invariant-loop-left : goal.invariant-loop-left

@@ -1,5 +1,3 @@
-use borrow.Author.Rules.{rules}
-use Rattle.pattern.proofs.Linking as law
 use Rattle.pattern.proofs.Linking.{Linking}
 use Rattle.pattern.proofs.links.link.Given as goal
 

@@ -1,6 +1,4 @@
-use Rattle.std.proofs.Common.{◌≡◌, length, drop, ℕ, ◌+◌, ◌-◌, ◌*◌, ◌<◌, ◌≤◌}
-use Rattle.pattern.specs.Reading.{parse, symbol_item, ends, well_formed}
-use Rattle.pattern.specs.Answers.{GivesPart, ReadsRepeat, ReadsAlternatives, ReadsSequence, ReadsItem, GivesPattern}
+use Rattle.std.proofs.Common.{length, ◌+◌, ◌-◌, ◌*◌}
 use Rattle.pattern.proofs.Sequences.{Sequencing, Alternating}
 use Rattle.pattern.proofs.reader.+read_alternatives_read_item_read_sequence.Given as goal
 
@@ -13,11 +11,11 @@ decreases-read_item l = 3 * (length l.s.now - l.at)
 abbrev pub decreases-read_sequence : goal.decreases-read_sequence
 decreases-read_sequence l = 3 * (length l.s.now - l.at) + 1
 
-abbrev pub invariant-read_alternatives-loop-e : goal.invariant-read_alternatives-loop-e
-invariant-read_alternatives-loop-e l = Alternating l.s l.at l.depth l.k l.initial.links l.i l.n l.whole l.links
+abbrev pub invariant-read_alternatives-loop-part : goal.invariant-read_alternatives-loop-part
+invariant-read_alternatives-loop-part l = Alternating l.s l.at l.depth l.k l.initial.links l.i l.n l.whole l.links
 
-abbrev pub decreases-read_alternatives-loop-e : goal.decreases-read_alternatives-loop-e
-decreases-read_alternatives-loop-e l = length l.s - l.i
+abbrev pub decreases-read_alternatives-loop-part : goal.decreases-read_alternatives-loop-part
+decreases-read_alternatives-loop-part l = length l.s - l.i
 
 abbrev pub invariant-read_sequence-loop-links : goal.invariant-read_sequence-loop-links
 invariant-read_sequence-loop-links l = Sequencing l.s l.at l.depth l.k l.initial.links l.i l.n l.whole l.links

@@ -1,6 +1,5 @@
 use mathlib.Core.Path.{ap}
 use lib.Bits.{bit_xor}
-use borrow.Author.Rules.{rules}
 use Rattle.pattern.proofs.Linking as law
 use Rattle.pattern.proofs.symbol_set.without.Goals as goal
 

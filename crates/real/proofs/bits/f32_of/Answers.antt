@@ -1,4 +1,4 @@
-use Rattle.std.proofs.Common.{arith, rules}
+use Rattle.std.proofs.Common.{arith}
 use lib.Ieee.{binary32, of_bits, div}
 use Rattle.real.proofs.Patterns.{no_nan, is_nan_law}
 use Rattle.real.proofs.bits.f32_of.Goals as goal

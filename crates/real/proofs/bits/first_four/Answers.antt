@@ -1,4 +1,4 @@
-use Rattle.std.proofs.Common.{◌≡◌, ℕ, take, arith, rules}
+use Rattle.std.proofs.Common.{◌≡◌, ℕ, take, arith}
 use Rattle.base.specs.LittleEndian.{unsigned}
 use Rattle.base.proofs.ByteLists.{part_below, shorter}
 use Rattle.real.proofs.bits.first_four.Goals as goal

@@ -5,17 +5,17 @@ use Rattle.real.proofs.literal.make_real.Goals as goal
 pub returns-then-digits-ge1000000000000000 : goal.returns-then-digits-ge1000000000000000
 returns-then-digits-ge1000000000000000 c = search too_many_digits
 
+pub returns-in_err-scale : goal.returns-in_err-scale
+returns-in_err-scale c = search (rules, beyond_made)
+
 pub multiply-requires : goal.multiply-requires
-multiply-requires c = (search rules, search up_most)
+multiply-requires c = let scaled = c.in_ok-scale.was in (search rules, search up_most)
 
 pub divide-requires : goal.divide-requires
-divide-requires c = (search rules, search down_some, search down_most)
+divide-requires c = let scaled = c.in_ok-scale.was in (search rules, search down_some, search down_most)
 
 pub returns-in-Up : goal.returns-in-Up
-returns-in-Up c = search up_made
+returns-in-Up c = let scaled = c.in_ok-scale.was in search up_made
 
 pub returns-in-Down : goal.returns-in-Down
-returns-in-Down c = search down_made
-
-pub returns-in-Beyond : goal.returns-in-Beyond
-returns-in-Beyond c = search beyond_made
+returns-in-Down c = let scaled = c.in_ok-scale.was in search down_made

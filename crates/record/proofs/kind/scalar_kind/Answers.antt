@@ -1,5 +1,4 @@
 use Rattle.record.specs.Kind.{integer_kind, scalar_kind}
-use borrow.Author.Rules.{rules}
 use Rattle.record.proofs.Numbers as law
 use Rattle.record.proofs.kind.scalar_kind.Goals as goal
 

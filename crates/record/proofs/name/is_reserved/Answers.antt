@@ -1,5 +1,4 @@
 use Rattle.record.proofs.Laws as law
-use borrow.Author.Rules.{rules}
 use Rattle.record.proofs.name.is_reserved.Goals as goal
 
 pub returns : goal.returns

@@ -2,7 +2,6 @@ use Prim.Native.Nat.{ℕ}
 use native.Mathlib.Omega.{arith}
 use Rattle.record.proofs.Laws as law
 use Rattle.record.proofs.Small.{number_below}
-use borrow.Author.Rules.{rules}
 use Rattle.record.proofs.read.record_at.Goals as goal
 
 pub returns-then-s-at : goal.returns-then-s-at

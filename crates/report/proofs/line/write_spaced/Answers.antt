@@ -1,5 +1,4 @@
 use Rattle.report.proofs.Laws as law
-use borrow.Author.Rules.{rules}
 use Rattle.report.proofs.line.write_spaced.Goals as goal
 
 pub returns : goal.returns

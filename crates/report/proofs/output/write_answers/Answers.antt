@@ -1,37 +1,28 @@
-use borrow.Author.Rules.{rules}
-use Prim.Native.Nat.{◌-◌}
-use mathlib.Core.Path.{◌≡◌}
-use native.Mathlib.Omega.{arith}
-use lib.ListN.{length}
-use Rattle.record.proofs.Reach as reach
-use Rattle.run.specs.Totals.{answers_of}
+use Rattle.std.proofs.Common.{rules, ◌≡◌}
+use Rattle.record.specs.Record.{broken, ended}
+use Rattle.record.specs.Walked.{left, Passes}
 use Rattle.report.proofs.Writing as law
-use Rattle.report.proofs.Writing.{Writing, answers_at}
 use Rattle.report.proofs.output.write_answers.Goals as goal
+use Rattle.report.proofs.output.write_answers.Goals.{in-None, in-Some+in_default}
 
-pub loop-start-init : goal.loop-start-init
-loop-start-init c = (search law.writing_begins, search rules)
+pub loop-record-init : goal.loop-record-init
+loop-record-init c = (search (rules, law.writing_begins), search rules, search rules)
 
-pub overflow_add-count : goal.overflow_add-count
-overflow_add-count c = let m = law.writing_room _ _ _ _ _ _ _ _ _ c.loop-start.invariant.0 c.record_at.ensures c.in-Whole.is in omega arith
+pub loop-record-preserved : goal.loop-record-preserved
+loop-record-preserved c =
+    let w = c.loop-record.invariant.0 in
+    let p : Passes c.loop-record.record-iterator c.in-Ok.record c.next.new.self = search rules in (
+      law.writing_next _ _ _ _ _ _ _ _ _ w _ _ _ _ _ p.walked c.body_in-instance.ensures c.evaluate_accepted-answer.ensures.0 c.write_answer-place.ensures c.count_answer-totals.ensures,
+      search rules,
+      search rules,
+    )
 
-pub count_answer-totals-requires : goal.count_answer-totals-requires
-count_answer-totals-requires c = let m = law.writing_few _ _ _ _ _ _ _ _ _ c.loop-start.invariant.0 c.record_at.ensures c.in-Whole.is in omega (arith, c.well_formed)
-
-pub loop-start-smaller : goal.loop-start-smaller
-loop-start-smaller c = search reach.step_less
-
-pub loop-start-preserved : goal.loop-start-preserved
-loop-start-preserved c = (search law.writing_next, search rules)
-
-pub shape_of-out-in-Broken : goal.shape_of-out-in-Broken
-shape_of-out-in-Broken c = search law.writing_same
-
-pub returns-in-Broken : goal.returns-in-Broken
-returns-in-Broken c = search law.writing_broken
-
-pub shape_of-out-in-End : goal.shape_of-out-in-End
-shape_of-out-in-End c = search law.writing_same
-
-pub returns-in-End : goal.returns-in-End
-returns-in-End c = search law.writing_end
+pub returns : goal.returns
+returns c =
+    let w = c.loop-record.invariant.0 in
+    elim c.match-next.branch [
+      | in-None b ↦ let f : left c.loop-record.record-iterator ≡ ended = search rules in law.writing_end _ _ _ _ _ _ _ _ _ w c.write_total.ensures f
+      | in-Some+in_default b ↦
+          let f : left c.loop-record.record-iterator ≡ broken b.in_default.field-0 = search rules in
+          law.writing_broken _ _ _ _ _ _ _ _ _ w c.write_total.ensures _ f
+    ]

@@ -1,25 +1,30 @@
-use borrow.Author.Rules.{rules}
-use Prim.Native.Nat.{◌+◌, ◌≤◌}
-use mathlib.Core.Path.{◌≡◌, refl}
+use Prim.Native.Nat.{◌+◌, ◌-◌, ◌<◌, ◌≤◌}
+use mathlib.Core.Path.{◌≡◌}
+use native.Mathlib.Omega.{arith}
 use Rattle.syntax.proofs.Laws.{list_out, list_none, list_close, list_bad, list_more}
-use Rattle.syntax.specs.Scan.{scan}
-use Rattle.syntax.specs.Comparison.{elements}
 use Rattle.syntax.proofs.right_side.read_elements.Goals as goal
 
-pub loop-left-init : goal.loop-left-init
-loop-left-init c = (refl, search rules)
-
 pub returns-then-not-is_literal : goal.returns-then-not-is_literal
-returns-then-not-is_literal c = search list_none
+returns-then-not-is_literal c =
+    let more : 0 < 32 - c.loop-before.before = omega arith in
+    search list_none
 
 pub returns-then-is_kind : goal.returns-then-is_kind
-returns-then-is_kind c = search list_close
+returns-then-is_kind c =
+    let more : 0 < 32 - c.loop-before.before = omega arith in
+    search list_close
 
 pub returns-then-not-is_kind : goal.returns-then-not-is_kind
-returns-then-not-is_kind c = search list_bad
+returns-then-not-is_kind c =
+    let more : 0 < 32 - c.loop-before.before = omega arith in
+    search list_bad
 
-pub loop-left-preserved : goal.loop-left-preserved
-loop-left-preserved c = (search list_more, search rules)
+pub loop-before-preserved : goal.loop-before-preserved
+loop-before-preserved c =
+    let more : 32 - c.loop-before.before ≡ 32 - (c.loop-before.before + 1) + 1 = omega arith in
+    search list_more
 
 pub returns : goal.returns
-returns c = rw c.limit_at.ensures (search list_out)
+returns c =
+    let none : 32 - c.loop-before.before ≤ 0 = omega arith in
+    search list_out

@@ -1,32 +1,23 @@
-use borrow.Author.Rules.{rules}
+use Rattle.std.proofs.Common.{rules, inl}
+use Rattle.table.specs.Properties.{find_property}
 use Rattle.table.proofs.Laws as law
-use Rattle.record.proofs.Reach as reach
-use Rattle.record.specs.Record.{records}
-use lib.ListN.{length}
-use Prim.Native.Nat.{◌-◌, ◌≤◌}
-use mathlib.Core.Path.{◌≡◌}
-use Rattle.table.specs.Properties.{find_in, find_property}
-use native.Mathlib.Omega.{arith}
 use Rattle.table.proofs.lookup.find_property.Goals as goal
 
-pub loop-kind-init : goal.loop-kind-init
+pub loop-number-init-derived : goal.loop-number-init-derived
+loop-number-init-derived c = ((tt, tt, inl (search rules)), tt)
+
+pub loop-number-init : goal.loop-number-init
 unfolding find_property
-loop-kind-init c = (search rules, rw c.first_property-at.ensures)
+loop-number-init c = search rules
+
+pub returns-in_err-record : goal.returns-in_err-record
+returns-in_err-record c = search (rules, law.find_broken)
 
 pub returns-then-same_name : goal.returns-then-same_name
-returns-then-same_name c = search law.find_found
+returns-then-same_name c = search (rules, law.find_found)
 
-pub overflow_add-number : goal.overflow_add-number
-overflow_add-number c = omega (arith, reach.step_room _ _ c.record_at.ensures c.in-Whole.is _ c.loop-kind.invariant.0)
+pub loop-number-preserved : goal.loop-number-preserved
+loop-number-preserved c = search (rules, law.find_next)
 
-pub loop-kind-smaller : goal.loop-kind-smaller
-loop-kind-smaller c = search reach.step_less
-
-pub loop-kind-preserved : goal.loop-kind-preserved
-loop-kind-preserved c = (search reach.step_counts, search law.find_next)
-
-pub returns-in-Broken : goal.returns-in-Broken
-returns-in-Broken c = search law.find_broken
-
-pub returns-in-End : goal.returns-in-End
-returns-in-End c = search law.find_end
+pub returns : goal.returns
+returns c = search (rules, law.find_end)

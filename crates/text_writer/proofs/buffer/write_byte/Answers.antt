@@ -1,5 +1,4 @@
 use Rattle.text_writer.proofs.Written as law
-use borrow.Author.Rules.{rules}
 use Rattle.text_writer.proofs.buffer.write_byte.Goals as goal
 
 pub returns : goal.returns

@@ -5,7 +5,6 @@ use Rattle.token.proofs.Laws.{sym_spans, pair_fits, single_fits}
 use Rattle.token.proofs.Spans.{moved_spans}
 use Rattle.token.proofs.Symbols.{two_bytes_law, one_byte}
 use Rattle.token.specs.Token.{symbol_token, single_kind}
-use borrow.Author.Rules.{rules}
 use Rattle.token.proofs.symbol.symbol_token.Goals as goal
 
 pub returns-then-is_token : goal.returns-then-is_token

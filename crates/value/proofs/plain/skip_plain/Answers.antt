@@ -1,5 +1,4 @@
 use Rattle.value.proofs.PlainUnits as law
-use borrow.Author.Rules.{rules}
 use Rattle.value.proofs.plain.skip_plain.Goals as goal
 
 pub returns-then-not-is_bytewise : goal.returns-then-not-is_bytewise

@@ -1,3 +1,6 @@
+use mir.Val.{SFits}
+use Rattle.std.specs.Int.{w128}
+use Rattle.std.proofs.lemmas.Int.{to_z-of_z}
 use Rattle.instance.specs.Value.{family_value}
 use Rattle.value.specs.Unit.{units_from}
 use Rattle.value.specs.Item.{listed, item_value}
@@ -10,7 +13,9 @@ returns-in-Boolean c = rw (c.in-Boolean.is, c.byte_at.ensures, c.piece-body.ensu
 
 pub returns-in-Integer : goal.returns-in-Integer
 unfolding item_value family_value
-returns-in-Integer c = rw (c.in-Integer.is, c.read_whole.ensures, c.piece-body.ensures)
+returns-in-Integer c =
+    let f : SFits w128 c.read_whole.result = search rules in
+    rw (c.in-Integer.is, to_z-of_z w128 c.read_whole.result f, c.read_whole.ensures, c.piece-body.ensures)
 
 pub returns-in-Real : goal.returns-in-Real
 unfolding item_value family_value

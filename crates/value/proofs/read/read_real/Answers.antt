@@ -1,5 +1,4 @@
 use mathlib.Core.Path.{◌∙◌}
-use borrow.Author.Rules.{rules}
 use Rattle.value.proofs.read.read_real.Goals as goal
 
 pub returns-then-width-eq4 : goal.returns-then-width-eq4

@@ -1,18 +1,18 @@
 use Rattle.value.proofs.Laws as law
-use borrow.Author.Rules.{rules}
+use Rattle.base.specs.Part.{same_bytes}
 use Rattle.value.proofs.same.next_units.Goals as goal
+use Rattle.value.proofs.same.next_units.Goals.{in_default-via-in-Some+in_default, in_default-via-in-None+in_default}
 
-pub returns-then-x-y : goal.returns-then-x-y
-returns-then-x-y c = search law.units_differ
+pub returns-then-m-n : goal.returns-then-m-n
+returns-then-m-n c = search law.units_differ
 
-pub returns-else-x-y : goal.returns-else-x-y
-returns-else-x-y c = (search law.units_next, search law.units_fewer)
+pub returns-else-m-n : goal.returns-else-m-n
+returns-else-m-n c = (search law.units_next, search law.units_fewer)
 
-pub returns-in-End-next_unit : goal.returns-in-End-next_unit
-returns-in-End-next_unit c = search law.units_longer
+pub returns-in_default : goal.returns-in_default
+unfolding same_bytes
+returns-in_default c =
+    elim c.in_default.branch [ in_default-via-in-Some+in_default w ↦ rw (w.in_default.ensures, w.in_default.ensures') | in_default-via-in-None+in_default w ↦ rw (w.in_default.ensures, w.in_default.ensures') ]
 
-pub returns-in-Unit-next_unit-2 : goal.returns-in-Unit-next_unit-2
-returns-in-Unit-next_unit-2 c = search law.units_shorter
-
-pub returns-in-End-next_unit-2 : goal.returns-in-End-next_unit-2
-returns-in-End-next_unit-2 c = search law.units_both_end
+pub returns-in-None-None : goal.returns-in-None-None
+returns-in-None-None c = search law.units_both_end

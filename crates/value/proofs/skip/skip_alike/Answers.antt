@@ -1,5 +1,4 @@
 use Rattle.value.proofs.CharacterUnits as law
-use borrow.Author.Rules.{rules}
 use Rattle.value.proofs.skip.skip_alike.Goals as goal
 
 pub returns-then-is_bytes : goal.returns-then-is_bytes

@@ -1,9 +1,8 @@
 use Rattle.value.proofs.CharacterUnits as law
-use borrow.Author.Rules.{rules}
 use Rattle.value.proofs.skip.skip_common.Goals as goal
 
-pub returns-in-Differ : goal.returns-in-Differ
-returns-in-Differ c = search law.still_differ
+pub returns-in_err-left : goal.returns-in_err-left
+returns-in_err-left c = rw c.from_residual.ensures c.in_err-left.ensures
 
-pub returns-in-Past : goal.returns-in-Past
-returns-in-Past c = search law.skipped_further
+pub returns : goal.returns
+returns c = law.skipped_further c.in_ok-left.ensures c.skip_alike-n.ensures c.after.ensures c.after-2.ensures

@@ -5,7 +5,7 @@ use native.Mathlib.Omega.{arith}
 use lib.ListN.{length, take}
 use Rattle.string_literal.specs.Text.{text_at, characters_of}
 use Rattle.string_literal.proofs.Laws.{moved}
-use Rattle.string_literal.proofs.Filling.{next_character, at_close, at_bad, step_in}
+use Rattle.string_literal.proofs.Filling.{next_character, step_in}
 use Rattle.value_literal.proofs.Ascii as law
 use borrow.Author.Rules.{rules}
 use Rattle.value_literal.proofs.datetime_text.copy_characters.Goals as goal
@@ -25,8 +25,6 @@ loop-v-smaller c = let m = moved c.char_in_string.ensures.1 c.in-Character.is in
 pub loop-v-preserved : goal.loop-v-preserved
 loop-v-preserved c = (step_in _ _ _ c.loop-v.out c.loop-v.n _ c.char_in_string.ensures.0 c.in-Character.is c.loop-v.invariant.0 c.loop-v.invariant.2 (omega arith), omega arith, search rules)
 
-pub returns-in-Close : goal.returns-in-Close
-returns-in-Close c = law.copied_all _ _ c.loop-v.out c.loop-v.n c.loop-v.invariant.0 c.loop-v.invariant.2 (at_close _ _ c.char_in_string.ensures.0 c.in-Close.is)
-
-pub returns-in-Bad : goal.returns-in-Bad
-returns-in-Bad c = law.copied_all _ _ c.loop-v.out c.loop-v.n c.loop-v.invariant.0 c.loop-v.invariant.2 (at_bad _ _ c.char_in_string.ensures.0 c.in-Bad.is)
+pub returns : goal.returns
+returns c =
+    law.copied_all _ _ c.loop-v.out c.loop-v.n c.loop-v.invariant.0 c.loop-v.invariant.2 (law.at_end _ _ c.char_in_string.ensures.0 c.in_default.not-Character)

@@ -1,13 +1,8 @@
 use Prim.Native.Nat.{◌≤◌, ◌-◌}
-use mathlib.Core.Path.{◌≡◌, refl}
+use mathlib.Core.Path.{◌≡◌}
 use mathlib.Core.List.{◌++◌}
-use native.Mathlib.Omega.{arith}
 use lib.ListN.{length, take}
 use Rattle.string_literal.specs.Text.{text_at, characters_of}
-use Rattle.string_literal.proofs.Laws.{moved}
-use Rattle.string_literal.proofs.Filling.{next_character, at_close, at_bad, step_in}
-use Rattle.value_literal.proofs.Ascii as law
-use borrow.Author.Rules.{rules}
 use Rattle.value_literal.proofs.datetime_text.copy_characters.Given as goal
 
 abbrev pub invariant-loop-v : goal.invariant-loop-v

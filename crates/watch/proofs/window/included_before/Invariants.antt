@@ -1,12 +1,9 @@
-use borrow.Author.Rules.{rules}
-use native.Mathlib.Omega.{arith}
-use Rattle.watch.proofs.Counting as law
-use Rattle.watch.proofs.Counting.{Counting}
-use Prim.Native.Nat.{◌-◌}
+use Prim.Native.Nat.{◌+◌}
+use mathlib.Core.Path.{◌≡◌}
+use lib.ListN.{take, drop}
+use Rattle.run.specs.Totals.{count}
+use Rattle.watch.specs.Window.{is_one, included}
 use Rattle.watch.proofs.window.included_before.Given as goal
 
-abbrev pub invariant-loop-i : goal.invariant-loop-i
-invariant-loop-i l = Counting l.marks l.end l.window l.ones l.i
-
-abbrev pub decreases-loop-i : goal.decreases-loop-i
-decreases-loop-i l = l.window - l.i
+abbrev pub invariant-loop-mark : goal.invariant-loop-mark
+invariant-loop-mark l = l.ones + count is_one (drop l.mark-index l.mark-items) ≡ included l.window (take l.end l.marks)

@@ -1,6 +1,5 @@
-use borrow.Author.Rules.{rules}
-use native.Mathlib.Omega.{arith}
 use Rattle.watch.proofs.Counting as law
+use native.Mathlib.Omega.{arith}
 use Rattle.watch.proofs.window.moved_before.Goals as goal
 
 pub overflow_sub-kept : goal.overflow_sub-kept

@@ -1,11 +1,5 @@
-use borrow.Author.Rules.{rules}
-use native.Mathlib.Omega.{arith}
-use Rattle.watch.proofs.Passing as law
 use Rattle.watch.proofs.Passing.{Passing}
 use Rattle.watch.proofs.window.watch_marks.Given as goal
 
 abbrev pub invariant-loop-left : goal.invariant-loop-left
 invariant-loop-left l = Passing l.window l.need l.initial.marks l.count l.left l.marks l.held l.ones
-
-abbrev pub decreases-loop-left : goal.decreases-loop-left
-decreases-loop-left l = l.left

@@ -1,9 +1,0 @@
-use Rattle.fql_export.proofs.Laws as law
-use borrow.Author.Rules.{rules}
-use Rattle.fql_export.proofs.totals_of.Goals as goal
-
-pub returns-in-Totals : goal.returns-in-Totals
-returns-in-Totals c = search law.totals_counted
-
-pub returns-in-Refused : goal.returns-in-Refused
-returns-in-Refused c = search law.totals_refused

@@ -1,0 +1,11 @@
+use Prim.Native.Nat.{◌-◌, ◌≤◌}
+use mathlib.Core.Bool.{true}
+use mathlib.Core.Path.{◌≡◌}
+use Rattle.value.specs.Plain.{common_in}
+use Rattle.value.proofs.class.common_blocks.Given as goal
+
+abbrev pub invariant-loop-n : goal.invariant-loop-n
+invariant-loop-n g l = (l.n ≤ l.limit) × (common_in (g.C.ByteClass.class l.class) l.a l.at l.b l.beside l.n ≡ true)
+
+abbrev pub decreases-loop-n : goal.decreases-loop-n
+decreases-loop-n g l = l.limit - l.n
