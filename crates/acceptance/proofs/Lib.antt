@@ -1,3 +1,4 @@
+pub mod Layers
 pub mod Derived
 pub mod DerivedQuery
 pub mod Counted
