@@ -1,5 +1,6 @@
 // Whole numbers of 1 to 8 bytes, least byte first, unsigned and in two's complement.
 ghost use Rattle.std.specs.Prelude.{◌≡◌, ℕ, ◌+◌, ◌^◌, ◌≤◌, ◌<◌, length, take};
+ghost use Rattle.std.specs.Int.Signed.{lt_z};
 ghost use Rattle.base.specs.LittleEndian.{unsigned, twos_complement};
 ghost use Rattle.base.specs.Order.{order_of_whole};
 
@@ -71,13 +72,21 @@ pub fn signed_in(s: &[u8]) -> i128
     i128::from(u) - i128::from(ones) - 1
 }
 
+#[tactic(auto, using(crate::proofs::Orders::less))]
+pub fn is_less(a: i128, b: i128) -> bool
+    ensures { result ≡ lt_z a b }
+{
+    a < b
+}
+
+#[tactic(auto, unfolding(crate::specs::Order::order_of_whole))]
 pub fn order_of_whole(a: i128, b: i128) -> Order
     ensures { result ≡ order_of_whole a b }
 {
-    if a < b {
+    if is_less(a, b) {
         return Order::Before;
     }
-    if b < a {
+    if is_less(b, a) {
         return Order::After;
     }
     Order::Same

@@ -32,10 +32,10 @@ use Rattle.judge.specs.declared.fault.ItemFault.TheVariants.{Unlike, Faulty}
 use Rattle.judge.specs.Meaning as meaning
 use Rattle.judge.specs.Meaning.{Read, unlike, faulty, value, Left, Right, Meant, fails, means, as_scalar, as_array, element_of, indexed, left_scalar, left_array, elements, not_null, of_row, right_scalar, right_array, pattern_by}
 
--- a comparison's answer: its failure, or its truth and steps
 abbrev pub refusal : Cause → (place : ℕ) → ComparisonRefusal
 refusal c p = record { cause = c; place = p }
 
+-- a comparison's answer: its failure, or its truth and steps
 unfoldable pub judged : Meant → Result Told ComparisonRefusal
 judged (fails c p) = Err (refusal c p)
 judged (means x) = Ok (performed x)

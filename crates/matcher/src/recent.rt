@@ -5,7 +5,7 @@ ghost use Rattle.matcher.specs.Recent.{Recalls};
 use pattern::links::{LINKS, closed_in, simple_in};
 
 // With more places more sets would be found, and one that isn't would take longer.
-pub(crate) const PLACES: usize = 4;
+pub const PLACES: usize = 4;
 
 // In shorter texts there is less to gather than to find the simple symbols, and the closed ones.
 const LONG: usize = 256;
@@ -14,15 +14,15 @@ const LONGER: usize = 4096;
 
 #[derive(Drop)]
 pub struct Recent {
-    pub(crate) sets: [u64; PLACES],
-    pub(crate) onward: [u64; PLACES], // what may come after each set
-    pub(crate) simple: u64, // symbols by which less is to be gathered; here and not in locals, of which the matcher's loop has enough
-    pub(crate) closed: u64,
+    pub sets: [u64; PLACES],
+    pub onward: [u64; PLACES], // what may come after each set
+    pub simple: u64, // symbols by which less is to be gathered; here and not in locals, of which the matcher's loop has enough
+    pub closed: u64,
 }
 
 impl Recent {
     // For a text of n bytes.
-    pub(crate) fn new(links: &[u64; LINKS], n: usize) -> Recent
+    pub fn new(links: &[u64; LINKS], n: usize) -> Recent
         ensures { Recalls links.now result }
     {
         let mut recent = Recent {

@@ -5,7 +5,6 @@ ghost use Rattle.encoding.specs.Scalar.{scalar_at};
 ghost use Rattle.pattern.specs.Hits.{Hits};
 ghost use Rattle.matcher.specs.Remembered.{Remembers};
 
-use base::bytes::piece;
 use encoding::scalar::scalar_of;
 use pattern::hits::hits_of;
 
@@ -97,6 +96,6 @@ impl Memory {
         if b < 0x80 {
             return self.hit_ascii(p, b);
         }
-        self.hit_other(p, scalar_of(piece(text, at, n)))
+        self.hit_other(p, scalar_of(&text[at..at + n]))
     }
 }

@@ -9,7 +9,7 @@ pub struct Fragment {
     pub last: u64, // those that may come last
 }
 
-pub(crate) fn keep_if(b: bool, set: u64) -> u64
+pub fn keep_if(b: bool, set: u64) -> u64
     ensures { result ≡ kept_if b set }
 {
     if b { set } else { 0 }

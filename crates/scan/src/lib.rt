@@ -15,11 +15,12 @@ pub enum Class {
     Digit(u64),
 }
 
+// Joined by `|`, which the compiler makes one test of a bit: with `matches!` a long run took twice the time.
 #[tactic(auto, unfolding(crate::specs::Class::white))]
 fn is_white(b: u8) -> bool
     ensures { result ≡ white b }
 {
-    matches!(b, b'\t' | b'\r' | b'\n' | b' ')
+    (b == b'\t') | ((b == b'\r') | ((b == b'\n') | (b == b' ')))
 }
 
 #[tactic(auto, unfolding(crate::specs::Class::in_class))]

@@ -36,7 +36,7 @@ fn undecided(any: bool, n: usize) -> Told
     }
 }
 
-// The records of an array: the search ends at the first element that decides it.
+// The records of an array: the search ends at the first element that decides it. (A `for` can't break with a value.)
 fn search_records<'a>(
     any: bool,
     op: Operator,
@@ -47,20 +47,23 @@ fn search_records<'a>(
 ) -> Told
     ensures { result ≡ searched false any op (some (elements_of of a.now)) (item_value b.now y) }
 {
+    let mut records = records_from(a, 0);
     let mut n: usize = 1;
-    for record in records_from(a, 0) {
-        let Ok(record) = record else {
-            return undecided(any, n);
-        };
-        if decides(any, holds_in(op, a, of, record, b, y)) {
-            return Told {
-                holds: any,
-                steps: n + 1,
-            };
+    loop {
+        match records.next() {
+            Some(Ok(record)) => {
+                if decides(any, holds_in(op, a, of, record, b, y)) {
+                    break Told {
+                        holds: any,
+                        steps: n + 1,
+                    };
+                }
+                n += 1;
+            }
+            Some(Err(_)) => break undecided(any, n),
+            None => break undecided(any, n),
         }
-        n += 1;
     }
-    undecided(any, n)
 }
 
 #[tactic(auto, using(crate::proofs::Searching::turned))]

@@ -6,7 +6,7 @@ ghost use Rattle.scan.specs.Ends.{Ends};
 ghost use Rattle.string_literal.specs.Char.{unicode_char, raw_at, hex_run, unicode_escape, escape_at, char_at};
 ghost use Rattle.string_literal.specs.Text.{text_at, characters_of, end_or, string_literal, filled, Holds, WithinChar};
 
-use base::bytes::{byte_at, piece};
+use base::bytes::byte_at;
 use base::digit::read_value;
 use encoding::scalar::{is_scalar_value, scalar_of};
 use encoding::sequence::sequence_at;
@@ -24,7 +24,7 @@ pub enum InString {
 pub fn is_unicode_char(v: u32) -> bool
     ensures { result ≡ unicode_char v }
 {
-    matches!(v, 0x20..=0xd7ff | 0xe000..=0xfffd | 0x10000..=0x10ffff)
+    matches!(v, 0x20..=0xd7ff) | matches!(v, 0xe000..=0xfffd) | matches!(v, 0x10000..=0x10ffff)
 }
 
 // A byte of ASCII from the blank on is a character; other characters are decoded.
@@ -39,7 +39,7 @@ fn raw_at(q: &[u8], at: usize) -> InString
     if n == 0 {
         return InString::Bad;
     }
-    let v = scalar_of(piece(q, at, n));
+    let v = scalar_of(&q[at..at + n]);
     if is_unicode_char(v) {
         return InString::Character(v, at + n);
     }

@@ -11,7 +11,7 @@ use Rattle.base.specs.Part.{byte_at}
 use Rattle.base.specs.Range.{within}
 use Rattle.base.specs.Digit.{digit_of}
 use Rattle.base.proofs.Says.{and_false, or_neither}
-use Rattle.base.proofs.DecimalDigits.{decimal_digit}
+use Rattle.base.proofs.DecimalDigits.{decimal_digit, is_decimal}
 use Rattle.record.specs.Name.{letter}
 use Rattle.scan.specs.Class.{in_class}
 use Rattle.scan.specs.declared.Class.TheVariants as Class
@@ -24,6 +24,11 @@ use Rattle.token.specs.declared.TokenKind.{TokenKind}
 use Rattle.token.specs.declared.TokenKind.TheVariants.{NoToken, Number, Symbol}
 use Rattle.token.specs.declared.Token.{Token}
 use Rattle.token.specs.Token.{token, is_token, fitted, longer, word_token, number_token, text_token, pair_kind, single_kind, symbol_of, symbol_token, longest_at, Spans}
+
+-- a digit or a sign, as the code tests the byte
+pub number_begins : (b : ℕ) {d o : Bool} → d ≡ within 48 57 b → o ≡ one_of 43 45 b → (d || o) ≡ (in_class (Class.Digit 10) b || one_of 43 45 b)
+unfolding in_class
+number_begins b e f = rw (is_decimal b e, f) refl
 
 module _ (s : ℕ) where
   abbrev pub none : Token

@@ -1,6 +1,8 @@
 // The longest of several matches.
-ghost use Rattle.std.specs.Prelude.{◌≡◌, ◌<◌, length};
-ghost use Rattle.numeral.specs.Numeral.{real_literal};
+ghost use Rattle.std.specs.Prelude.{◌≡◌, ◌<◌, ◌||◌, length};
+ghost use Rattle.scan.specs.Class.{in_class};
+ghost use Rattle.scan.specs.declared.Class.TheVariants as Class;
+ghost use Rattle.numeral.specs.Numeral.{one_of, real_literal};
 ghost use Rattle.token.specs.Token.{fitted, longer, symbol_of, longest_at, Spans};
 
 use crate::literals::{number_token, text_token};
@@ -44,6 +46,14 @@ fn point_token(q: &[u8], s: usize) -> Token
     longer_of(r, symbol_of(TokenKind::Symbol(Punctuation::Dot), s, 1))
 }
 
+// A digit or a sign. A point may begin a number too, or stand alone: `point_token` tells.
+#[tactic(auto, using(crate::proofs::FirstByte::number_begins), unfolding(base::specs::Range::within))]
+fn begins_number(b: u8) -> bool
+    ensures { result ≡ (in_class (Class.Digit 10) b || one_of 43 45 b) }
+{
+    b.is_ascii_digit() | is_one_of(b'+', b'-', b)
+}
+
 // The first byte tells which kind can stand there.
 pub(crate) fn longest_at(q: &[u8], s: usize) -> Token
     requires { s < length q.now }
@@ -53,7 +63,7 @@ pub(crate) fn longest_at(q: &[u8], s: usize) -> Token
     if is_letter(b) {
         return word_token(q, s);
     }
-    if b.is_ascii_digit() | is_one_of(b'+', b'-', b) {
+    if begins_number(b) {
         return number_token(q, s);
     }
     if b == b'\'' {

@@ -86,6 +86,11 @@ abbrev pub Skips : (us vs : List ℕ) → Option (Units × Units) → Type 0
 Skips us vs None = false ≡ same_bytes us vs
 Skips us vs (Some (x, y)) = Onward us vs (units x) (units y)
 
+-- what is left of both stands in their slices, in their forms
+abbrev pub BothStay : (x y : Units) → Option (Units × Units) → Type 0
+BothStay x y None = Unit
+BothStay x y (Some (u, v)) = (u.form ≡ x.form) × (u.bytes.now ≡ x.bytes.now) × (v.form ≡ y.form) × (v.bytes.now ≡ y.bytes.now)
+
 abbrev pub Pairs : (us vs : List ℕ) → Pair → Type 0
 Pairs us vs (Same x y) = (same_bytes us vs ≡ same_bytes (units x) (units y)) × (length (units x) < length us)
 Pairs us vs Differ = false ≡ same_bytes us vs

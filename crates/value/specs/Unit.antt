@@ -37,3 +37,8 @@ units u = units_from u.form u.bytes.now u.at
 abbrev pub Steps : List ℕ → Option (ℕ × Units) → Type 0
 Steps us (Some (v, rest)) = us ≡ v ∷ units rest
 Steps us None = us ≡ []
+
+-- what is left of a slice stands in it
+abbrev pub StaysIn : List ℕ → Option (ℕ × Units) → Type 0
+StaysIn s (Some (v, rest)) = rest.bytes.now ≡ s
+StaysIn s None = Unit

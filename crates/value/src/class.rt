@@ -54,7 +54,7 @@ pub fn same_in<C: ByteClass>(class: C, x: u8, y: u8) -> bool
 }
 
 // How many bytes both have from their places on.
-fn both_left<'a>(a: &'a [u8], at: usize, b: &'a [u8], beside: usize) -> usize
+pub fn both_left<'a>(a: &'a [u8], at: usize, b: &'a [u8], beside: usize) -> usize
     ensures { (result ≤ length a.now - at) × (result ≤ length b.now - beside) }
 {
     if a.len() <= at {

@@ -2,9 +2,10 @@
 ghost use Rattle.std.specs.Prelude.{◌≡◌};
 ghost use Rattle.base.specs.Part.{byte_at};
 ghost use Rattle.value.specs.Unit.{units};
-ghost use Rattle.value.specs.Plain.{is_bytewise, other_plain, Skips};
+ghost use Rattle.value.specs.Plain.{is_bytewise, other_plain, Skips, BothStay};
 
-use crate::class::{LAST, Plain, common_run, is_plain};
+use crate::class::{LAST, Plain, common_run};
+pub use crate::class::{both_left, is_plain};
 use crate::unit::{Form, Units};
 use base::bytes::byte_at;
 
@@ -29,7 +30,8 @@ fn other_plain<'a>(a: &'a [u8], at: usize, b: &'a [u8], beside: usize) -> bool
 // What is left of two sequences after the plain bytes that both have in common; none where their units differ there.
 #[inline(always)]
 pub fn skip_plain<'a>(x: Units<'a>, y: Units<'a>) -> Option<(Units<'a>, Units<'a>)>
-    ensures { Skips (units x.entry) (units y.entry) result }
+    ensures skips { Skips (units x.entry) (units y.entry) result }
+    ensures stays { BothStay x.entry y.entry result }
 {
     if !(is_bytewise(x.form) & is_bytewise(y.form)) {
         return Some((x, y));

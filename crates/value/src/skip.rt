@@ -1,7 +1,7 @@
 // What two sequences have in common is skipped: plain bytes, and whole characters beyond ASCII.
 ghost use Rattle.std.specs.Prelude.{◌≡◌};
 ghost use Rattle.value.specs.Unit.{units};
-ghost use Rattle.value.specs.Plain.{is_bytes, is_utf8, is_characters, Along, Skips};
+ghost use Rattle.value.specs.Plain.{is_bytes, is_utf8, is_characters, Along, Skips, BothStay};
 
 use crate::class::{Class, common_run, same_in};
 use crate::plain::skip_plain;
@@ -70,7 +70,8 @@ fn skip_alike<'a>(x: Units<'a>, y: Units<'a>) -> usize
 
 #[inline(always)]
 pub fn skip_common<'a>(x: Units<'a>, y: Units<'a>) -> Option<(Units<'a>, Units<'a>)>
-    ensures { Skips (units x.entry) (units y.entry) result }
+    ensures skips { Skips (units x.entry) (units y.entry) result }
+    ensures stays { BothStay x.entry y.entry result }
 {
     let (left, right) = skip_plain(x, y)?;
     let n = skip_alike(left, right);

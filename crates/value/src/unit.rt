@@ -1,9 +1,8 @@
 // Text, octets and references, unit by unit: a text's characters, or bytes.
 ghost use Rattle.std.specs.Prelude.{◌≡◌, ◌+◌, ◌-◌, ◌≤◌, ◌<◌, length, get_or};
 ghost use Rattle.encoding.specs.Scalar.{two_bytes, three_bytes, four_bytes, encode};
-ghost use Rattle.value.specs.Unit.{units_from, units, Steps};
+ghost use Rattle.value.specs.Unit.{units_from, units, Steps, StaysIn};
 
-use base::bytes::piece;
 use base::digit::digit_of;
 use encoding::scalar::scalar_of;
 use encoding::sequence::sequence_at;
@@ -34,7 +33,8 @@ impl<'a> Units<'a> {
     // The first unit, and those after it; none where there are no more.
     #[inline(always)]
     pub fn next(self) -> Option<(u64, Units<'a>)>
-        ensures { Steps (units self.entry) result }
+        ensures steps { Steps (units self.entry) result }
+        ensures stays { StaysIn self.entry.bytes.now result }
     {
         let Units { form, bytes, at } = self;
         match form {
@@ -51,7 +51,8 @@ impl<'a> Units<'a> {
     #[inline(always)]
     pub fn after(self, n: usize) -> Units<'a>
         requires { n ≤ length self.bytes.now - self.at }
-        ensures { units result ≡ units_from self.entry.form self.entry.bytes.now (self.entry.at + n) }
+        ensures moved { units result ≡ units_from self.entry.form self.entry.bytes.now (self.entry.at + n) }
+        ensures stays { (result.form ≡ self.entry.form) × (result.bytes.now ≡ self.entry.bytes.now) × (result.at ≡ self.entry.at + n) }
     {
         Units {
             at: self.at + n,
@@ -63,7 +64,8 @@ impl<'a> Units<'a> {
 #[tactic(auto, using(crate::proofs::Laws::byte_end, crate::proofs::Laws::byte_next))]
 #[inline(always)]
 fn next_byte<'a>(bytes: &'a [u8], at: usize) -> Option<(u64, Units<'a>)>
-    ensures { Steps (units_from Form.Bytes bytes.now at) result }
+    ensures steps { Steps (units_from Form.Bytes bytes.now at) result }
+    ensures stays { StaysIn bytes.now result }
 {
     if bytes.len() <= at {
         return None;
@@ -79,7 +81,8 @@ fn next_byte<'a>(bytes: &'a [u8], at: usize) -> Option<(u64, Units<'a>)>
 
 #[inline(always)]
 fn next_character<'a>(bytes: &'a [u8], at: usize) -> Option<(u64, Units<'a>)>
-    ensures { Steps (units_from Form.Utf8 bytes.now at) result }
+    ensures steps { Steps (units_from Form.Utf8 bytes.now at) result }
+    ensures stays { StaysIn bytes.now result }
 {
     let n = sequence_at(bytes, at);
     if n == 0 {
@@ -91,12 +94,13 @@ fn next_character<'a>(bytes: &'a [u8], at: usize) -> Option<(u64, Units<'a>)>
         bytes,
         at: at + n,
     };
-    Some((u64::from(scalar_of(piece(bytes, at, n))), rest))
+    Some((u64::from(scalar_of(&bytes[at..at + n])), rest))
 }
 
 #[tactic(auto, using(crate::proofs::Laws::char16_end, crate::proofs::Laws::char16_next))]
 fn next_char16<'a>(bytes: &'a [u8], at: usize) -> Option<(u64, Units<'a>)>
-    ensures { Steps (units_from Form.Char16 bytes.now at) result }
+    ensures steps { Steps (units_from Form.Char16 bytes.now at) result }
+    ensures stays { StaysIn bytes.now result }
 {
     if at != 0 {
         return None;
@@ -108,7 +112,8 @@ fn next_char16<'a>(bytes: &'a [u8], at: usize) -> Option<(u64, Units<'a>)>
 
 #[tactic(auto, using(crate::proofs::Laws::pair_end, crate::proofs::Laws::pair_half, crate::proofs::Laws::pair_next))]
 fn next_pair<'a>(bytes: &'a [u8], at: usize) -> Option<(u64, Units<'a>)>
-    ensures { Steps (units_from Form.Hex bytes.now at) result }
+    ensures steps { Steps (units_from Form.Hex bytes.now at) result }
+    ensures stays { StaysIn bytes.now result }
 {
     if bytes.len() <= at {
         return None;
@@ -127,7 +132,8 @@ fn next_pair<'a>(bytes: &'a [u8], at: usize) -> Option<(u64, Units<'a>)>
 
 #[inline(always)]
 fn next_quoted<'a>(bytes: &'a [u8], at: usize) -> Option<(u64, Units<'a>)>
-    ensures { Steps (units_from Form.Quoted bytes.now at) result }
+    ensures steps { Steps (units_from Form.Quoted bytes.now at) result }
+    ensures stays { StaysIn bytes.now result }
 {
     let InString::Character(c, at) = char_in_string(bytes, at) else {
         return None;
@@ -210,7 +216,8 @@ fn encoded_byte(v: u64, k: usize) -> u64
 }
 
 fn next_encoded<'a>(bytes: &'a [u8], at: usize, skipped: usize) -> Option<(u64, Units<'a>)>
-    ensures { Steps (units_from (Form.Encoded skipped) bytes.now at) result }
+    ensures steps { Steps (units_from (Form.Encoded skipped) bytes.now at) result }
+    ensures stays { StaysIn bytes.now result }
 {
     let InString::Character(c, next) = char_in_string(bytes, at) else {
         return None;

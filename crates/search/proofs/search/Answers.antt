@@ -1,5 +1,4 @@
 use Rattle.search.proofs.Searching as law
-use borrow.Author.Rules.{rules}
 use Rattle.search.proofs.search.Goals as goal
 
 pub returns-in-Some : goal.returns-in-Some

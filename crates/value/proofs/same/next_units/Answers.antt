@@ -12,7 +12,7 @@ returns-else-m-n c = (search law.units_next, search law.units_fewer)
 pub returns-in_default : goal.returns-in_default
 unfolding same_bytes
 returns-in_default c =
-    elim c.in_default.branch [ in_default-via-in-Some+in_default w ↦ rw (w.in_default.ensures, w.in_default.ensures') | in_default-via-in-None+in_default w ↦ rw (w.in_default.ensures, w.in_default.ensures') ]
+    elim c.in_default.branch [ in_default-via-in-Some+in_default w ↦ rw (w.in_default.ensures.steps, w.in_default.ensures'.steps) | in_default-via-in-None+in_default w ↦ rw (w.in_default.ensures.steps, w.in_default.ensures'.steps) ]
 
 pub returns-in-None-None : goal.returns-in-None-None
 returns-in-None-None c = search law.units_both_end
