@@ -27,7 +27,7 @@ pub(crate) const CIRCUMFLEX: u32 = 0x5e; // ^
 
 pub(crate) const HYPHEN: u32 = 0x2d; // -
 
-// Joined by `|`, here and in `is_between`, which the compiler makes one test of a bit: `matches!` asks for one character after the other, and LIKE with many groups took twice the time.
+// Joined by `|`, here and in `is_between`: with `matches!` the compiler asks for one character after the other, and 120 groups over a long text took 1.6 times as long.
 #[tactic(auto, unfolding(crate::specs::Character::special))]
 pub(crate) fn is_special(x: u32) -> bool
     ensures { result ≡ special x }

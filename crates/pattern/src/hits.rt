@@ -30,21 +30,22 @@ pub fn hits_of(p: &[u32], c: u32) -> u64
     let mut at = 0;
     let mut k = 0;
     let mut found = 0u64;
+    // With `continue` in place of `else` the compiler makes two loops, in which each character between symbols takes two jumps.
     while at < p.len() {
         if is_between(p[at]) {
             at += 1;
-            continue;
+        } else {
+            if LINKS <= k {
+                return found;
+            }
+            let Some((end, hit)) = symbol_at(p, at, c) else {
+                return found;
+            };
+            let own = keep_if(hit, 1u64 << k);
+            found |= own;
+            k += 1;
+            at = end;
         }
-        if LINKS <= k {
-            return found;
-        }
-        let Some((end, hit)) = symbol_at(p, at, c) else {
-            return found;
-        };
-        let own = keep_if(hit, 1u64 << k);
-        found |= own;
-        k += 1;
-        at = end;
     }
     found
 }

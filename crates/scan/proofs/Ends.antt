@@ -1,19 +1,16 @@
 -- Laws of the ends of rules.
-use Prim.Native.Nat.{ℕ, ◌+◌, ◌≤◌, ◌<◌}
+use Prim.Native.Nat.{ℕ, ◌+◌, ◌-◌, ◌≤◌, ◌<◌, min}
 use mathlib.Core.Path.{◌≡◌, refl}
 use mathlib.Core.List.{List}
 use mathlib.Core.Bool.{Bool, true, false}
 use native.Mathlib.Omega.{arith}
-use lib.ListN.{length}
+use lib.ListN.{length, take, drop}
+use Rattle.std.specs.Prelude.{Option, Some, None, position, not, unwrap_or}
 use Rattle.base.specs.Pick.{pick}
 use Rattle.scan.specs.declared.Class.{Class}
-use Rattle.scan.specs.Class.{run}
+use Rattle.scan.specs.Class.{in_class, run}
 pub use Rattle.scan.specs.Ends.{Ends}
-use Rattle.scan.proofs.Runs.{run_from, run_reach, run_end}
-use Prim.Native.Nat.{max}
-use mathlib.Core.Path.{sym, ◌∙◌}
-use lib.Dec.{leb}
-use borrow.Author.Tests.{leb-true, leb-false}
+use Rattle.scan.proofs.Runs.{run_from, run_reach, span_outside, rest_from}
 
 -- from a place within the text it is within the text
 pub ends_within : {n at e : ℕ} → Ends n at e → at ≤ n → e ≤ n
@@ -40,10 +37,15 @@ run_ends c q at = record { from = run_from c q at; reach = run_reach c q at }
 pub reached : {r e n at : ℕ} → r ≡ e → Ends n at e → (r ≡ e) × Ends n at r
 reached e w = (e, rw e w)
 
--- the loop's end, also from a place past the text's
-pub run_out : {r : ℕ} (c : Class) (q : List ℕ) (at i : ℕ) → run c q at ≡ run c q i → length q ≤ i → (at ≤ length q → i ≤ length q) → r ≡ max at (length q) → r ≡ run c q at
-run_out {r} c q at i e l h m = go (leb at (length q)) refl
-  where
-    go : (t : Bool) → leb at (length q) ≡ t → r ≡ run c q at
-    go true t = let k = h (leb-true at (length q) t) in let a = leb-true at (length q) t in sym (e ∙ run_end c q i l ∙ omega arith)
-    go false t = let k = leb-false at (length q) t in sym (run_end c q at (omega arith) ∙ omega arith)
+-- the run ends where the first byte outside its class stands in what is left, or where that ends
+module _ {m : ℕ} {o : Option ℕ} (c : Class) (q : List ℕ) (at : ℕ) (from : m ≡ min at (length q))
+    (told : o ≡ position (λ b. not (in_class c b)) (take (length q - m) (drop m q))) where
+  reaches : at + unwrap_or o (length (take (length q - m) (drop m q))) ≡ run c q at
+  unfolding run
+  reaches = rw (told, rest_from q at from) (rw (span_outside c (drop at q)) refl)
+
+  pub run_stopped : {n : ℕ} → o ≡ Some n → (at + n ≡ run c q at) × Ends (length q) at (at + n)
+  run_stopped is = reached (rw is at reaches) (run_ends c q at)
+
+  pub run_to_end : o ≡ None → (at + length (take (length q - m) (drop m q)) ≡ run c q at) × Ends (length q) at (at + length (take (length q - m) (drop m q)))
+  run_to_end is = reached (rw is at reaches) (run_ends c q at)

@@ -1,14 +1,18 @@
 -- Laws of runs: one step, the end, their bounds, and that they are the longest.
 use mathlib.Core.Path.{◌≡◌, refl, sym, ap, ◌∙◌}
-use mathlib.Core.Bool.{Bool, true, false, not, true≢false}
+use mathlib.Core.Bool.{Bool, true, false, not, cond, true≢false}
 use mathlib.Core.List.{List, [], ◌∷◌}
-use Prim.Native.Nat.{ℕ, zero, suc, ◌+◌, ◌-◌, ◌≤◌, ◌<◌}
+use Prim.Native.Nat.{ℕ, zero, suc, ◌+◌, ◌-◌, ◌≤◌, ◌<◌, min}
 use native.Mathlib.Numerals.{add-one}
 use native.Mathlib.Omega.{arith}
-use lib.ListN.{length, get_or, drop, length-drop, drop_of_length-le}
-use lib.Dec.{leb}
+use lib.ListN.{length, get_or, take, drop, length-drop, drop_of_length-le}
+use lib.Dec.{leb, ltb}
+use Rattle.std.specs.Option.{unwrap_or}
+use Rattle.std.specs.List.{position, position_or_len}
+use Rattle.std.proofs.lemmas.List.Recursion.{is_position_or_len}
+use Rattle.std.proofs.Math.Seq.{take-length}
 use lib.Seq.{drop-cons, get_or-drop}
-use borrow.Author.Tests.{not-true, not-false, leb-true, leb-false, le-ltb}
+use borrow.Author.Tests.{not-true, not-false, leb-true, leb-false, ltb-false, le-ltb}
 use Rattle.base.specs.Part.{byte_at}
 use Rattle.base.specs.Range.{within}
 use Rattle.base.specs.Digit.{digit_of}
@@ -48,6 +52,39 @@ span_le c (b ∷ s) = go (in_class c b) (span_le c s)
     go : (t : Bool) → span c s ≤ length s → elim t [ true ↦ suc (span c s) | false ↦ 0 ] ≤ suc (length s)
     go true h = omega arith
     go false h = omega arith
+
+-- a run is as long as the bytes before the first that isn't of its class
+module _ (c : Class) where
+  outside_step : (b : ℕ) (s : List ℕ) → span c (b ∷ s) ≡ cond (not (in_class c b)) 0 (1 + span c s)
+  outside_step b s = go (in_class c b) refl
+    where
+      go : (t : Bool) → in_class c b ≡ t → span c (b ∷ s) ≡ cond (not (in_class c b)) 0 (1 + span c s)
+      go true e = rw (span_more c b s e, e) (omega arith)
+      go false e = rw (span_stop c b s e, e) refl
+
+  pub span_outside : (s : List ℕ) → unwrap_or (position (λ b. not (in_class c b)) s) (length s) ≡ span c s
+  unfolding span
+  span_outside s =
+      go (ltb (position_or_len (λ b. not (in_class c b)) s) (length s)) refl (is_position_or_len (span c) (λ b. not (in_class c b)) refl outside_step s)
+    where
+      go : (t : Bool) → ltb (position_or_len (λ b. not (in_class c b)) s) (length s) ≡ t → span c s ≡ position_or_len (λ b. not (in_class c b)) s
+          → unwrap_or (position (λ b. not (in_class c b)) s) (length s) ≡ span c s
+      go true e k = rw e (sym k)
+      go false e k = rw e (omega (arith, ltb-false _ _ e, span_le c s, k))
+
+-- what is left from a place on, also past the end
+pub rest_from : {m : ℕ} (q : List ℕ) (at : ℕ) → m ≡ min at (length q) → take (length q - m) (drop m q) ≡ drop at q
+rest_from {m} q at f = go (leb at (length q)) refl
+  where
+    go : (t : Bool) → leb at (length q) ≡ t → take (length q - m) (drop m q) ≡ drop at q
+    go true t =
+        let k = leb-true at (length q) t in
+        let e : m ≡ at = omega (arith, f, k) in
+        rw (e, ← length-drop at q) (take-length (drop at q))
+    go false t =
+        let k = leb-false at (length q) t in
+        let e : length q - m ≡ 0 = omega (arith, f, k) in
+        rw (drop_of_length-le q {i = m} (omega (arith, f, k)), drop_of_length-le q {i = at} (omega (arith, k)), e) refl
 
 pub run_within : (c : Class) (q : List ℕ) (at : ℕ) → at ≤ length q → run c q at ≤ length q
 unfolding run
