@@ -27,7 +27,7 @@ pub(crate) const CIRCUMFLEX: u32 = 0x5e; // ^
 
 pub(crate) const HYPHEN: u32 = 0x2d; // -
 
-// Joined by `|`, here and in `is_between`: with `matches!` the compiler asks for one character after the other, and 120 groups over a long text took 1.6 times as long.
+// Joined by `|`, here and in `is_between`: of `matches!` the compiler makes more tests here, and there asks for brackets last; 120 groups over a long text took 1.6 times as long.
 #[tactic(auto, unfolding(crate::specs::Character::special))]
 pub(crate) fn is_special(x: u32) -> bool
     ensures { result ≡ special x }

@@ -30,7 +30,7 @@ pub fn hits_of(p: &[u32], c: u32) -> u64
     let mut at = 0;
     let mut k = 0;
     let mut found = 0u64;
-    // With `continue` in place of `else` the compiler makes two loops, in which each character between symbols takes two jumps.
+    // With `continue` in place of `else` the compiler makes two loops, in which a bracket takes two jumps.
     while at < p.len() {
         if is_between(p[at]) {
             at += 1;
